@@ -1,0 +1,13 @@
+pub mod Lists
+pub mod Entry
+pub mod Distance
+pub mod Account
+pub mod Stages
+pub mod Taking
+pub mod Closing
+pub mod Image
+pub mod Accepting
+pub mod Decoding
+pub mod Answers
+pub mod Runs
+pub mod Rules
