@@ -1,3 +1,4 @@
 pub mod Tests
 pub mod Decode
 pub mod Buckets
+pub mod Shows

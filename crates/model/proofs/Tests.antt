@@ -119,3 +119,12 @@ module _ {X : Type 0} where
   unfolding all
   all-snoc p [] x = and-true (p x)
   all-snoc p (y ∷ xs) x = rw (all-snoc p xs x) (sym (and-assoc (p y) (all p xs) (p x)))
+
+  pub filter-filter : (p q : X → Bool) (xs : List X) → filter p (filter q xs) ≡ filter (λ x. q x && p x) xs
+  unfolding filter
+  filter-filter p q [] = refl
+  filter-filter p q (x ∷ xs) = go (q x) (filter-filter p q xs)
+    where
+      go : (b : Bool) → filter p (filter q xs) ≡ filter (λ x. q x && p x) xs → filter p (if b then x ∷ filter q xs else filter q xs) ≡ (if b && p x then x ∷ filter (λ x. q x && p x) xs else filter (λ x. q x && p x) xs)
+      go true ih = rw ih
+      go false ih = ih
