@@ -11,7 +11,7 @@ use lib.Seq.{ext-getD}
 use lib.Dec.{eqb}
 use borrow.Author.Tests.{eq-eqb, ne-eqb}
 use Rattle.model.specs.Lists.{if_then_else_, filter, all, upward, sumBelow}
-use Rattle.model.proofs.Tests.{and-l, and-r, filter-append}
+use Rattle.model.proofs.Tests.{and-l, and-r}
 
 module _ {X : Type 0} where
   pub upward-cong : (c n : ℕ) (p r : ℕ → List X) → ((i : ℕ) → n ≤ i → i < n + c → p i ≡ r i) → upward c n p ≡ upward c n r
@@ -19,7 +19,7 @@ module _ {X : Type 0} where
   upward-cong zero n p r e = refl
   upward-cong (suc c) n p r e = rw (e n (omega arith) (omega arith), upward-cong c (suc n) p r (λ i l u. e i (omega arith) (omega arith)))
 
-  upward-none : (c n : ℕ) → _≡_ {A = List X} (upward c n (λ i. [])) []
+  pub upward-none : (c n : ℕ) → _≡_ {A = List X} (upward c n (λ i. [])) []
   unfolding upward
   upward-none zero n = refl
   upward-none (suc c) n = upward-none c (suc n)
@@ -38,23 +38,22 @@ module _ {X : Type 0} where
   upward-most zero n b p h = omega arith
   upward-most (suc c) n b p h = omega (arith, length-append (p n) (upward c (suc n) p), h n, upward-most c (suc n) b p h, suc-mul c b)
 
-  -- ---- what passes a test, of such a list
+-- ---- what a function that goes part by part keeps of such a list
 
-  module _ (t : X → Bool) (p : ℕ → List X) where
-    pub passing-none : (c n : ℕ) → ((j : ℕ) → n ≤ j → j < n + c → filter t (p j) ≡ []) → filter t (upward c n p) ≡ []
-    unfolding upward filter
-    passing-none zero n e = refl
-    passing-none (suc c) n e = filter-append t (p n) (upward c (suc n) p) ∙ rw (e n (omega arith) (omega arith), passing-none c (suc n) (λ j l u. e j (omega arith) (omega arith)))
+module _ {X Y : Type 0} (keep : List X → List Y) (nil : keep [] ≡ []) (append : (xs ys : List X) → keep (xs ++ ys) ≡ keep xs ++ keep ys) (p : ℕ → List X) where
+  pub keeps-none : (c n : ℕ) → ((j : ℕ) → n ≤ j → j < n + c → keep (p j) ≡ []) → keep (upward c n p) ≡ []
+  unfolding upward
+  keeps-none zero n e = nil
+  keeps-none (suc c) n e = append (p n) (upward c (suc n) p) ∙ rw (e n (omega arith) (omega arith), keeps-none c (suc n) (λ j l u. e j (omega arith) (omega arith)))
 
-    -- only part i has any
-    pub passing-one : (c n i : ℕ) → n ≤ i → i < n + c → ((j : ℕ) → (j ≡ i → ⊥) → filter t (p j) ≡ []) → filter t (upward c n p) ≡ filter t (p i)
-    unfolding upward
-    passing-one zero n i l u e = absurd (omega arith)
-    passing-one (suc c) n i l u e = filter-append t (p n) (upward c (suc n) p) ∙ go (ℕ-discrete n i) (λ m. passing-one c (suc n) i m (omega arith) e)
-      where
-        go : Dec (n ≡ i) → (suc n ≤ i → filter t (upward c (suc n) p) ≡ filter t (p i)) → filter t (p n) ++ filter t (upward c (suc n) p) ≡ filter t (p i)
-        go (yes q) ih = rw (passing-none c (suc n) (λ j a b. e j (λ z. omega arith)), q, append-nil (filter t (p i)))
-        go (no q) ih = rw (e n q) (ih (omega arith))
+  pub keeps-one : (c n i : ℕ) → n ≤ i → i < n + c → ((j : ℕ) → (j ≡ i → ⊥) → keep (p j) ≡ []) → keep (upward c n p) ≡ keep (p i)
+  unfolding upward
+  keeps-one zero n i l u e = absurd (omega arith)
+  keeps-one (suc c) n i l u e = append (p n) (upward c (suc n) p) ∙ go (ℕ-discrete n i) (λ m. keeps-one c (suc n) i m (omega arith) e)
+    where
+      go : Dec (n ≡ i) → (suc n ≤ i → keep (upward c (suc n) p) ≡ keep (p i)) → keep (p n) ++ keep (upward c (suc n) p) ≡ keep (p i)
+      go (yes q) ih = rw (keeps-none c (suc n) (λ j a b. e j (λ z. omega arith)), q, append-nil (keep (p i)))
+      go (no q) ih = rw (e n q) (ih (omega arith))
 
 -- ---- parts of one element each
 

@@ -1,12 +1,12 @@
 -- The image determines what it shows, and where it begins: `decode` finds it at the end of any data. Assumes nothing.
-use Prim.Native.Nat.{ℕ, zero, suc, _+_, _*_, _-_, _/_, _%_}
-use mathlib.Core.Path.{_≡_, refl, _∙_}
+use Prim.Native.Nat.{ℕ, zero, suc, _+_, _*_, _-_, _/_, _%_, _≤_}
+use mathlib.Core.Path.{_≡_, refl, sym, _∙_}
 use mathlib.Core.Bool.{Bool, true, false}
 use mathlib.Core.List.{List, [], _∷_, _++_, append-assoc}
 use native.Mathlib.Omega.{arith}
 use native.Mathlib.Nat.{suc-mul}
 use lib.ListN.{length, getD, drop, length-append}
-use lib.Seq.{drop-at}
+use lib.Seq.{drop-at, drop-append-add}
 use lib.Dec.{eqb}
 use Rattle.wire.specs.Numbers.{number16, number32, bytes16, bytes32}
 use Rattle.model.specs.Lists.{one}
@@ -76,6 +76,19 @@ pub length-bytes : (x : Form) → length (bytes x) ≡ length (body x) + 24
 unfolding bytes
 length-bytes x = length-append (body x) _ ∙ rw trailer-long
 
+pub length-form : (x : Form) → length (bytes x) ≡ length (x .streams) * 8 + length (x .records) * 8 + length (x .held) * 20 + 24
+unfolding body
+length-form x =
+    let s = each stream8 (x .streams) in
+    let r = each record8 (x .records) in
+    let h = each held20 (x .held) in
+    omega (arith, length-bytes x, length-append s (r ++ h), length-append r h, length-each stream8 countersOf 8 stream-long stream-back (x .streams),
+      length-each record8 presentOf 8 record-long record-back (x .records), length-each held20 itemOf 20 item-long item-back (x .held))
+
+pub last-append : (p q : List ℕ) (n : ℕ) → n ≤ length q → lastOf n (p ++ q) ≡ lastOf n q
+unfolding lastOf
+last-append p q n h = let z : length (p ++ q) - n ≡ length p + (length q - n) = omega (arith, length-append p q) in rw z (drop-append-add p q (length q - n))
+
 pub last-of : (p q : List ℕ) (n : ℕ) → length q ≡ n → lastOf n (p ++ q) ≡ q
 unfolding lastOf
 last-of p q n h = drop-at p q (length (p ++ q) - n) (omega (arith, length-append p q))
@@ -130,11 +143,16 @@ module _ (x : Form) (t : List ℕ) where
         drop-each record8 presentOf 8 record-long record-back (x .records) (each held20 (x .held) ++ t),
         parse-each held20 itemOf 20 item-long item-back (x .held) t)
 
-pub decode-bytes : (front : List ℕ) (x : Form) → decode (front ++ bytes x) ≡ x
-unfolding decode bytes
-decode-bytes front x =
-    let n = length (body x) + 24 in
-    let t = trailer24 x n in
-    let e : lastOf 24 (front ++ (body x ++ t)) ≡ t = rw (← append-assoc front (body x) t) (last-of (front ++ body x) t 24 (trailer-long x n)) in
-    let b : lastOf n (front ++ (body x ++ t)) ≡ body x ++ t = last-of front (body x ++ t) n (length-bytes x) in
-    rw (e, t-long x n, b) (with-trailer x t n)
+-- ---- at the end of any data
+
+module _ (front : List ℕ) (x : Form) where
+  trailer-last : lastOf 24 (front ++ bytes x) ≡ trailer24 x (length (body x) + 24)
+  unfolding bytes
+  trailer-last = let t = trailer24 x (length (body x) + 24) in rw (← append-assoc front (body x) t) (last-of (front ++ body x) t 24 (trailer-long x (length (body x) + 24)))
+
+  pub says-length : number32 (lastOf 24 (front ++ bytes x)) 16 ≡ length (bytes x)
+  says-length = rw trailer-last (t-long x (length (body x) + 24) ∙ sym (length-bytes x))
+
+  pub decode-bytes : decode (front ++ bytes x) ≡ x
+  unfolding decode bytes
+  decode-bytes = rw (trailer-last, t-long x (length (body x) + 24), last-of front (bytes x) (length (body x) + 24) (length-bytes x)) (with-trailer x (trailer24 x (length (body x) + 24)) (length (body x) + 24))

@@ -17,7 +17,7 @@ use Rattle.model.specs.Image.{Present, Item, Form, shown, form}
 use Rattle.model.specs.Decoding.{mine, find, account, itemFits, heldFits, place, recordsFit, formFits}
 use Rattle.model.specs.declared.Counters.{Counters}
 use Rattle.model.proofs.Tests.{and-l, and-r, nth, all-snoc, filter-filter}
-use Rattle.model.proofs.Buckets.{upward-cong, passing-none, passing-one, singles, length-singles, getD-singles, singles-getD, Rising, at, buckets}
+use Rattle.model.proofs.Buckets.{upward-cong, singles, length-singles, getD-singles, singles-getD, Rising, at, buckets}
 
 -- ---- held entries
 
@@ -46,7 +46,7 @@ module _ (k c : ℕ) (ss : List Counters) where
 
 -- ---- records
 
-abbrev both : ℕ → ℕ → Present → Bool
+abbrev pub both : ℕ → ℕ → Present → Bool
 both i k r = eqb (r .fragment) i && eqb (r .key) k
 
 module _ (f keys : ℕ) (small : keys ≤ 128) where
