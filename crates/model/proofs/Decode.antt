@@ -1,5 +1,5 @@
 -- The image determines what it shows, and where it begins: `decode` finds it at the end of any data. Assumes nothing.
-use Prim.Native.Nat.{ℕ, zero, suc, _+_, _*_, _-_, _/_, _%_, _≤_}
+use Prim.Native.Nat.{ℕ, _+_, _*_, _-_, _/_, _%_, _≤_}
 use mathlib.Core.Path.{_≡_, refl, sym, _∙_}
 use mathlib.Core.Bool.{Bool, true, false}
 use mathlib.Core.List.{List, [], _∷_, _++_, append-assoc}
@@ -41,13 +41,7 @@ item-back e more =
       entry = record { kind = h .kind; transaction = four (h .transaction) i; argument = two (h .argument) i; value = four (h .value) i; flagged = bit-back (h .flagged) i; epoch = four (h .epoch) i };
     }
 
-module _ {X : Type 0} (enc : X → List ℕ) (dec : List ℕ → X) (size : ℕ) (long : (x : X) → length (enc x) ≡ size) (back : (x : X) (more : List ℕ) → dec (enc x ++ more) ≡ x) where
-  pub parse-each : (xs : List X) (rest : List ℕ) → parse (length xs) size dec (each enc xs ++ rest) ≡ xs
-  unfolding parse each
-  parse-each [] rest = refl
-  parse-each (x ∷ xs) rest =
-      rw (append-assoc (enc x) (each enc xs) rest, drop-at (enc x) (each enc xs ++ rest) size (long x), back x (each enc xs ++ rest), parse-each xs rest)
-
+module _ {X : Type 0} (enc : X → List ℕ) (size : ℕ) (long : (x : X) → length (enc x) ≡ size) where
   pub length-each : (xs : List X) → length (each enc xs) ≡ length xs * size
   unfolding each
   length-each [] = omega arith
@@ -55,6 +49,13 @@ module _ {X : Type 0} (enc : X → List ℕ) (dec : List ℕ → X) (size : ℕ)
 
   pub drop-each : (xs : List X) (rest : List ℕ) → drop (length xs * size) (each enc xs ++ rest) ≡ rest
   drop-each xs rest = drop-at (each enc xs) rest (length xs * size) (length-each xs)
+
+  module _ (dec : List ℕ → X) (back : (x : X) (more : List ℕ) → dec (enc x ++ more) ≡ x) where
+    pub parse-each : (xs : List X) (rest : List ℕ) → parse (length xs) size dec (each enc xs ++ rest) ≡ xs
+    unfolding parse each
+    parse-each [] rest = refl
+    parse-each (x ∷ xs) rest =
+        rw (append-assoc (enc x) (each enc xs) rest, drop-at (enc x) (each enc xs ++ rest) size (long x), back x (each enc xs ++ rest), parse-each xs rest)
 
 pub stream-long : (s : Counters) → length (stream8 s) ≡ 8
 unfolding stream8 bytes16 bytes32
@@ -82,8 +83,8 @@ length-form x =
     let s = each stream8 (x .streams) in
     let r = each record8 (x .records) in
     let h = each held20 (x .held) in
-    omega (arith, length-bytes x, length-append s (r ++ h), length-append r h, length-each stream8 countersOf 8 stream-long stream-back (x .streams),
-      length-each record8 presentOf 8 record-long record-back (x .records), length-each held20 itemOf 20 item-long item-back (x .held))
+    omega (arith, length-bytes x, length-append s (r ++ h), length-append r h, length-each stream8 8 stream-long (x .streams),
+      length-each record8 8 record-long (x .records), length-each held20 20 item-long (x .held))
 
 pub last-append : (p q : List ℕ) (n : ℕ) → n ≤ length q → lastOf n (p ++ q) ≡ lastOf n q
 unfolding lastOf
@@ -127,21 +128,21 @@ module _ (x : Form) (n : ℕ) where
 module _ (x : Form) (t : List ℕ) where
   streams-back : parse (length (x .streams)) 8 countersOf (body x ++ t) ≡ x .streams
   unfolding body
-  streams-back = rw (append-assoc (each stream8 (x .streams)) (each record8 (x .records) ++ each held20 (x .held)) t) (parse-each stream8 countersOf 8 stream-long stream-back (x .streams) _)
+  streams-back = rw (append-assoc (each stream8 (x .streams)) (each record8 (x .records) ++ each held20 (x .held)) t) (parse-each stream8 8 stream-long countersOf stream-back (x .streams) _)
 
   pub past-streams : drop (length (x .streams) * 8) (body x ++ t) ≡ each record8 (x .records) ++ (each held20 (x .held) ++ t)
   unfolding body
   past-streams =
       rw (append-assoc (each stream8 (x .streams)) (each record8 (x .records) ++ each held20 (x .held)) t, append-assoc (each record8 (x .records)) (each held20 (x .held)) t)
-      (drop-each stream8 countersOf 8 stream-long stream-back (x .streams) _)
+      (drop-each stream8 8 stream-long (x .streams) _)
 
   pub with-trailer : (n : ℕ) → decodeWith (trailer24 x n) (body x ++ t) ≡ x
   unfolding decodeWith
   with-trailer n =
       rw (t-number x n, t-size x n, t-keys x n, t-records x n, t-held x n, t-closed x n, streams-back, past-streams,
-        parse-each record8 presentOf 8 record-long record-back (x .records) (each held20 (x .held) ++ t),
-        drop-each record8 presentOf 8 record-long record-back (x .records) (each held20 (x .held) ++ t),
-        parse-each held20 itemOf 20 item-long item-back (x .held) t)
+        parse-each record8 8 record-long presentOf record-back (x .records) (each held20 (x .held) ++ t),
+        drop-each record8 8 record-long (x .records) (each held20 (x .held) ++ t),
+        parse-each held20 20 item-long itemOf item-back (x .held) t)
 
 -- ---- at the end of any data
 

@@ -1,16 +1,16 @@
 -- An account is well-formed exactly if what its image shows passes the test of it, and that image shows the account. Assumes nothing.
 use Prim.Native.Nat.{ℕ, zero, suc, _+_, _*_, _<_, _≤_}
-use mathlib.Core.Path.{_≡_, refl, sym, ap, subst, _∙_, fun-ext}
-use mathlib.Core.Bool.{Bool, true, false, _&&_, and-true, and-false, and-assoc}
+use mathlib.Core.Path.{_≡_, refl, sym, ap, _∙_, fun-ext}
+use mathlib.Core.Bool.{true, false, _&&_, and-true, and-false, and-assoc}
 use mathlib.Core.List.{List, [], _∷_, _++_, map, append-assoc, append-nil}
 use native.Mathlib.Omega.{arith}
 use native.Mathlib.Decide.{decLt}
-use lib.ListN.{length, getD, length-map, List·getD-eq-default}
+use lib.ListN.{length, length-map, List·getD-eq-default}
 use lib.Dec.{leb, ltb, eqb}
 use borrow.Author.Tests.{eq-eqb, ne-eqb, leb-true, le-leb, ltb-true, lt-ltb}
-use Rattle.model.specs.Lists.{if_then_else_, filter, all, every, upward, sumBelow}
-use Rattle.model.specs.Account.{Held, Record, absent, present, Fragment, Account, freshCounters, empty, accountFits, heldCount, MOST-HELD}
-use Rattle.model.specs.Accepting.{entryFits, follows, streamFits, WellFormed}
+use Rattle.model.specs.Lists.{filter, all, every, upward, sumBelow}
+use Rattle.model.specs.Account.{Held, Record, absent, present, Account, freshCounters, empty, accountFits, heldCount}
+use Rattle.model.specs.Accepting.{streamFits, WellFormed}
 use Rattle.model.specs.Image.{Present, Item, Form, shown, form}
 use Rattle.model.specs.Decoding.{mine, find, countersAt, account, itemFits, heldFits, recordsFit, formFits}
 use Rattle.model.specs.declared.Counters.{Counters}
@@ -180,31 +180,11 @@ module _ (a : Account) where
   unfolding account
   nothing-outside i h = let d = List·getD-eq-default (form a .streams) freshCounters {n = i} (omega (arith, streams-length)) in λ t. record { counters = d t; held = held-outside i h t; records = λ k. no-fragment-shown i k h t }
 
-  -- ---- the theorems
+  -- ---- well-formed, and passing the test
 
-  pub keys-small : accountFits (a .number) f (a .keys) ≡ true → a .keys ≤ 128
+  keys-small : accountFits (a .number) f (a .keys) ≡ true → a .keys ≤ 128
   unfolding accountFits
   keys-small e = leb-true (a .keys) 128 (nth _ e 5)
-
-  pub form-fits : WellFormed a → formFits (form a) ≡ true
-  unfolding formFits every form
-  form-fits w =
-      let o : all (λ s. ltb (a .closed) (s .epoch)) (form a .streams) ≡ true = all-of (λ i. a .at i .counters) (λ s. ltb (a .closed) (s .epoch)) f 0 (λ i l u. lt-ltb (a .closed) (a .at i .counters .epoch) (w .opened i (omega arith))) in
-      let h : heldFits (a .keys) (a .closed) (form a .streams) [] (form a .held) ≡ true =
-        held-all ∙ all-of (λ j. j) _ f 0 (λ i l u. let q : i < f = omega arith in rw (counters-back i q) (w .streams i q)) in
-      rw (streams-length, w .fits, held-length, le-leb (heldCount a) 256 (w .room), o, records-all (keys-small (w .fits)), h)
-
-  pub account-form : WellFormed a → account (form a) ≡ a
-  unfolding account form
-  account-form w = λ t. record { number = a .number; fragments = streams-length t; keys = a .keys; closed = a .closed; at = λ i. at-back i (decLt i f) t }
-    where
-      record-back : (i k : ℕ) → i < f → Dec (k < a .keys) → find i k (form a .records) ≡ a .at i .records k
-      record-back i k h (yes l) = record-within i k h l
-      record-back i k h (no l) = no-key-shown i k (omega arith) ∙ sym (w .no-key i k (omega arith))
-
-      at-back : (i : ℕ) → Dec (i < f) → account (form a) .at i ≡ a .at i
-      at-back i (yes h) = λ t. record { counters = counters-back i h t; held = held-within i h t; records = λ k. record-back i k h (decLt k (a .keys)) t }
-      at-back i (no h) = nothing-outside i (omega arith) ∙ sym (w .no-fragment i (omega arith))
 
   form-well-formed : formFits (form a) ≡ true → account (form a) ≡ a → WellFormed a
   unfolding formFits form account
@@ -218,6 +198,27 @@ module _ (a : Account) where
         no-fragment = λ i h. sym (ap (λ b. b .at i) q) ∙ nothing-outside i h;
         no-key = λ i k h. sym (ap (λ b. b .at i .records k) q) ∙ no-key-shown i k h;
       }
+
+module _ {a : Account} where
+  pub form-fits : WellFormed a → formFits (form a) ≡ true
+  unfolding formFits every form
+  form-fits w =
+      let o : all (λ s. ltb (a .closed) (s .epoch)) (form a .streams) ≡ true = all-of (λ i. a .at i .counters) (λ s. ltb (a .closed) (s .epoch)) (a .fragments) 0 (λ i l u. lt-ltb (a .closed) (a .at i .counters .epoch) (w .opened i (omega arith))) in
+      let h : heldFits (a .keys) (a .closed) (form a .streams) [] (form a .held) ≡ true =
+        held-all a ∙ all-of (λ j. j) _ (a .fragments) 0 (λ i l u. let q : i < a .fragments = omega arith in rw (counters-back a i q) (w .streams i q)) in
+      rw (streams-length a, w .fits, held-length a, le-leb (heldCount a) 256 (w .room), o, records-all a (keys-small a (w .fits)), h)
+
+  pub account-form : WellFormed a → account (form a) ≡ a
+  unfolding account form
+  account-form w = λ t. record { number = a .number; fragments = streams-length a t; keys = a .keys; closed = a .closed; at = λ i. at-back i (decLt i (a .fragments)) t }
+    where
+      record-back : (i k : ℕ) → i < a .fragments → Dec (k < a .keys) → find i k (form a .records) ≡ a .at i .records k
+      record-back i k h (yes l) = record-within a i k h l
+      record-back i k h (no l) = no-key-shown a i k (omega arith) ∙ sym (w .no-key i k (omega arith))
+
+      at-back : (i : ℕ) → Dec (i < a .fragments) → account (form a) .at i ≡ a .at i
+      at-back i (yes h) = λ t. record { counters = counters-back a i h t; held = held-within a i h t; records = λ k. record-back i k h (decLt k (a .keys)) t }
+      at-back i (no h) = nothing-outside a i (omega arith) ∙ sym (w .no-fragment i (omega arith))
 
 pub well-formed : (x : Form) → formFits x ≡ true → WellFormed (account x)
 well-formed x w = let e = form-account x w in form-well-formed (account x) (rw e w) (ap account e)

@@ -1,12 +1,12 @@
 -- Saving and loading: load accepts exactly the data that ends with the image of a well-formed account, finds that account, and reads no more of the data. Assumes nothing.
-use Prim.Native.Nat.{ℕ, zero, suc, _+_, _*_, _-_, _<_, _≤_}
+use Prim.Native.Nat.{ℕ, _+_, _*_, _-_, _≤_}
 use mathlib.Core.Path.{_≡_, refl, sym, ap, _∙_}
 use mathlib.Core.Logic.{_↔_}
-use mathlib.Core.Bool.{Bool, true, false, _&&_}
+use mathlib.Core.Bool.{Bool, true, false}
 use mathlib.Core.Option.{Option, some, none}
 use mathlib.Core.List.{List, [], _∷_, _++_, append-assoc}
 use native.Mathlib.Omega.{arith}
-use lib.ListN.{length, take, drop, length-append, take-append-drop}
+use lib.ListN.{length, take, length-append, take-append-drop}
 use lib.Dec.{leb, eqb}
 use borrow.Author.Tests.{eqb-true, eq-eqb, leb-true, le-leb}
 use Rattle.wire.specs.Numbers.{number32}
@@ -17,9 +17,11 @@ use Rattle.model.specs.Image.{Present, shown, form, bytes, image, LONGES
 use Rattle.model.specs.Decoding.{lastOf, decode, account, formFits, same, accepts, load}
 use Rattle.model.proofs.Tests.{no-way, and-l, and-r, nth}
 use Rattle.model.proofs.Buckets.{upward-none, upward-most}
-use Rattle.model.proofs.Decode.{decode-bytes, says-length, last-of, last-append, length-form}
-use Rattle.model.proofs.Shows.{form-account}
-use Rattle.model.proofs.Forms.{streams-length, held-length, form-fits, account-form, well-formed}
+pub use Rattle.model.proofs.Decode.{decode-bytes}
+use Rattle.model.proofs.Decode.{says-length, last-of, last-append, length-form}
+pub use Rattle.model.proofs.Shows.{form-account}
+pub use Rattle.model.proofs.Forms.{form-fits, account-form, well-formed}
+use Rattle.model.proofs.Forms.{streams-length, held-length}
 
 -- ---- what is accepted
 
@@ -46,7 +48,7 @@ accepted {given} {a} w =
     let d : decode given ≡ form a = rw (w .ends) (decode-bytes (w .front) (form a)) in
     let l : leb (length b) (length given) ≡ true = le-leb (length b) (length given) (omega (arith, ap length (w .ends) ∙ length-append (w .front) b)) in
     let s : lastOf (length b) given ≡ b = rw (w .ends) (last-of (w .front) b _ refl) in
-    rw (d, form-fits a (w .well-formed), l, s, same-refl b, account-form a (w .well-formed))
+    rw (d, form-fits (w .well-formed), l, s, same-refl b, account-form (w .well-formed))
 
 loaded : {given : List ℕ} {a : Account} → load given ≡ some a → Accepted given a
 unfolding load accepts image

@@ -1,23 +1,21 @@
 -- What an image shows and the account that it shows: each is got back from the other. Assumes nothing.
-use Prim.Native.Nat.{ℕ, zero, suc, _+_, _*_, _<_, _≤_}
-use mathlib.Core.Path.{_≡_, refl, sym, ap, _∙_, fun-ext}
-use mathlib.Core.Logic.{_⊎_, inl, inr}
+use Prim.Native.Nat.{ℕ, suc, _+_, _*_, _<_, _≤_}
+use mathlib.Core.Path.{_≡_, refl, sym, _∙_}
 use mathlib.Core.Bool.{Bool, true, false, _&&_}
-use mathlib.Core.List.{List, [], _∷_, _++_, map, append-assoc}
+use mathlib.Core.List.{List, [], _∷_, _++_, map}
 use native.Mathlib.Omega.{arith}
-use native.Mathlib.Decide.{decLt}
-use lib.ListN.{length, getD, List·getD-eq-default}
+use lib.ListN.{length}
 use lib.Dec.{leb, ltb, eqb}
-use borrow.Author.Tests.{eq-eqb, ne-eqb, eqb-true, leb-true, le-leb, ltb-true, lt-ltb}
+use borrow.Author.Tests.{eqb-true, leb-true, ltb-true}
 use Rattle.model.specs.Lists.{if_then_else_, filter, all, every, upward}
 use Rattle.model.specs.Entry.{inAccount}
-use Rattle.model.specs.Account.{Held, Record, absent, present, Fragment, Account, freshCounters, empty, accountFits}
-use Rattle.model.specs.Accepting.{entryFits, follows}
+use Rattle.model.specs.Account.{Held, present, freshCounters, accountFits}
+use Rattle.model.specs.Accepting.{entryFits}
 use Rattle.model.specs.Image.{Present, Item, Form, shown, form}
 use Rattle.model.specs.Decoding.{mine, find, account, itemFits, heldFits, place, recordsFit, formFits}
 use Rattle.model.specs.declared.Counters.{Counters}
 use Rattle.model.proofs.Tests.{and-l, and-r, nth, all-snoc, filter-filter}
-use Rattle.model.proofs.Buckets.{upward-cong, singles, length-singles, getD-singles, singles-getD, Rising, at, buckets}
+use Rattle.model.proofs.Buckets.{upward-cong, singles-getD, Rising, at, buckets}
 
 -- ---- held entries
 
