@@ -15,7 +15,7 @@ use Rattle.model.specs.Image.{Present, Item, Form, shown, form}
 use Rattle.model.specs.Decoding.{mine, find, countersAt, account, itemFits, heldFits, recordsFit, formFits}
 use Rattle.model.specs.declared.Counters.{Counters}
 use Rattle.model.proofs.Tests.{nth, all-append, all-snoc, if-ap, filter-append}
-use Rattle.model.proofs.Buckets.{length-upward, keeps-none, keeps-one, singles, length-singles, getD-singles, all-in, all-of, at}
+use Rattle.model.proofs.Buckets.{length-upward, keeps-none, keeps-one, singles, length-singles, getD-singles, all-in, all-of}
 use Rattle.model.proofs.Shows.{item, both, form-account}
 
 -- ---- held entries
