@@ -1,5 +1,10 @@
 // What a reader must believe: one account of the standby as definitions, in specs/, and what follows from
 // them alone, in proofs/. Here stand only the types that the definitions share with the code.
+ghost use mathlib.Core.Path.{_≡_};
+ghost use Prim.Native.Nat.{_≤_};
+ghost use lib.ListN.{length};
+ghost use Rattle.model.specs.Entry.{LENGTH, entryOf};
+ghost use Rattle.model.specs.Account.{freshCounters};
 
 // The stage of a transaction in a stream, by what is held of it there.
 pub enum Stage {
@@ -25,20 +30,51 @@ impl Entry {
     pub const LENGTH: usize = 16;
 
     pub const PUT: u8 = 1;
+
     pub const DELETE: u8 = 2;
+
     pub const P: u8 = 3;
+
     pub const CC: u8 = 4;
+
     pub const CP: u8 = 5;
+
     pub const A: u8 = 6;
+
     pub const MARK: u8 = 7;
 
     pub const LAST_MARK: u32 = 4294967294;
+
+    // The fields of 16 bytes.
+    pub fn read(bytes: &[u8]) -> Entry
+        requires { ⌜ LENGTH ≤ length (now bytes) ⌝ }
+        ensures { λ r. ⌜ r ≡ entryOf (now (bytes .entry)) ⌝ }
+    {
+        Entry {
+            kind: bytes[0],
+            fragment: bytes[1],
+            sequence: wire::get16(bytes, 2),
+            transaction: wire::get32(bytes, 4),
+            argument: wire::get16(bytes, 8),
+            spare: wire::get16(bytes, 10),
+            value: wire::get32(bytes, 12),
+        }
+    }
 }
 
 // One stream's two counters: its next sequence number and its open epoch.
 pub struct Counters {
     pub next: u16,
     pub epoch: u32,
+}
+
+impl Counters {
+    // Those of a stream of which nothing has been taken.
+    pub fn fresh() -> Counters
+        ensures { λ r. ⌜ r ≡ freshCounters ⌝ }
+    {
+        Counters { next: 0, epoch: 1 }
+    }
 }
 
 // Why a call is refused. Each case's number stands in specs/Answers.antt.
