@@ -1,1 +1,4 @@
 pub mod Tests
+pub mod Epochs
+pub mod RuleTest
+pub mod WorkedLog
