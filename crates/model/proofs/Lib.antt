@@ -1,3 +1,4 @@
 pub mod Tests
 pub mod Judged
 pub mod Runs
+pub mod Working
