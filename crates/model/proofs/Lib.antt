@@ -2,3 +2,4 @@ pub mod Tests
 pub mod Judged
 pub mod Runs
 pub mod Working
+pub mod Own
