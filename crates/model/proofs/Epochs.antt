@@ -7,6 +7,7 @@ use mathlib.Core.List.{List, [], _∷_, _++_}
 use native.Mathlib.Omega.{arith}
 use native.Mathlib.Decide.{ℕ-discrete}
 use lib.Dec.{eqb}
+use lib.ListN.{length}
 use borrow.Author.Tests.{eqb-true, eqb-false}
 use Rattle.model.specs.Lists.{if_then_else_}
 use Rattle.model.specs.Entry.{isMark, MARK}
@@ -72,6 +73,10 @@ rising n {h} {g} {p} {q} (e ∷ es) x y l = go (isMark e) x y l (λ m a b. risin
 
 -- ---- a first part
 
+pub at-below : {h : Held} {p : ℕ} {xs : List Held} → At h xs p → p < length xs
+at-below (here e) = omega arith
+at-below (there a) = omega (arith, at-below a)
+
 pub at-first : {h : Held} {p : ℕ} {xs : List Held} (ys : List Held) → At h xs p → At h (xs ++ ys) p
 at-first ys (here e) = here e
 at-first ys (there a) = there (at-first ys a)
@@ -104,19 +109,29 @@ pub record Cut (n m : ℕ) (es : List Entry) : Type 0 where
   pub rest : List Entry
   pub splits : es ≡ first ++ rest
   pub ends : epochAfter n first ≡ suc m
+  pub before : {h : Held} {p : ℕ} → At h (inEpochs n first) p → h .epoch ≤ m
+
+no-entry : (n : ℕ) {X : Type 0} {h : Held} {p : ℕ} → At h (inEpochs n []) p → X
+unfolding inEpochs
+no-entry n x = absurd (omega (arith, at-below x))
 
 pub cut : (n m : ℕ) (es : List Entry) → n ≤ suc m → m < epochAfter n es → Cut n m es
-unfolding epochAfter
-cut n m [] l k = record { first = []; rest = []; splits = refl; ends = omega arith }
+unfolding epochAfter inEpochs hold
+cut n m [] l k = record { first = []; rest = []; splits = refl; ends = omega arith; before = λ x. no-entry n x }
 cut n m (e ∷ es) l k = here? (ℕ-discrete n (suc m)) (λ j. cut (if isMark e then suc n else n) m es j k)
   where
-    more : Cut (if isMark e then suc n else n) m es → Cut n m (e ∷ es)
-    more c = record { first = e ∷ c .first; rest = c .rest; splits = ap (λ l. e ∷ l) (c .splits); ends = c .ends }
-
     within : (b : Bool) → (n ≡ suc m → ⊥) → (if b then suc n else n) ≤ suc m
     within true d = omega arith
     within false d = omega arith
 
+    earlier : (b : Bool) (fs : List Entry) → (n ≡ suc m → ⊥) → ((h : Held) (p : ℕ) → At h (inEpochs (if b then suc n else n) fs) p → h .epoch ≤ m)
+        → {h : Held} {p : ℕ} → At h (if b then inEpochs (suc n) fs else hold e n ∷ inEpochs n fs) p → h .epoch ≤ m
+    earlier true fs d ih {h} {p} x = ih h p x
+    earlier false fs d ih (here w) = let z : n ≤ m = omega arith in rw w z
+    earlier false fs d ih {h} (there {p = p} x) = ih h p x
+
     here? : Dec (n ≡ suc m) → ((if isMark e then suc n else n) ≤ suc m → Cut (if isMark e then suc n else n) m es) → Cut n m (e ∷ es)
-    here? (yes q) ih = record { first = []; rest = e ∷ es; splits = refl; ends = q }
-    here? (no d) ih = more (ih (within (isMark e) d))
+    here? (yes q) ih = record { first = []; rest = e ∷ es; splits = refl; ends = q; before = λ x. no-entry n x }
+    here? (no d) ih =
+        let c = ih (within (isMark e) d) in
+        record { first = e ∷ c .first; rest = c .rest; splits = ap (λ l. e ∷ l) (c .splits); ends = c .ends; before = earlier (isMark e) (c .first) d (λ h p. c .before) }

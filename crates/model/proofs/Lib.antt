@@ -3,6 +3,8 @@ pub mod Judged
 pub mod Runs
 pub mod Working
 pub mod Own
+pub mod Survivors
 pub mod Epochs
 pub mod RuleTest
 pub mod WorkedLog
+pub mod TakenLog

@@ -114,11 +114,11 @@ module _ (f : ℕ) (wrote : ℕ → List Entry) (coordinatorOf : ℕ → ℕ) wh
   t3 i p h j q g = implies (eqb i j ∷ ltb p q ∷ eqb (h .kind) P ∷ eqb (g .kind) P ∷ eqb (h .transaction) (g .transaction) ∷ []) false
 
   abbrev t4 : ℕ → ℕ → Held → ℕ → ℕ → Held → Bool
-  t4 i p h j q g = implies (eqb i j ∷ ltb p q ∷ leb CC (h .kind) ∷ eqb (h .transaction) (g .transaction) ∷ []) false
+  t4 i p h j q g = implies (eqb i j ∷ ltb p q ∷ leb CC (h .kind) ∷ leb (h .kind) A ∷ eqb (h .transaction) (g .transaction) ∷ []) false
 
   abbrev t5 : ℕ → ℕ → Held → ℕ → ℕ → Held → Bool
   t5 j c g i p h =
-      implies (eqb (g .kind) CC ∷ leb (h .kind) DELETE ∷ eqb (g .transaction) (h .transaction) ∷ not (eqb i j) ∷ [])
+      implies (eqb (g .kind) CC ∷ leb PUT (h .kind) ∷ leb (h .kind) DELETE ∷ eqb (g .transaction) (h .transaction) ∷ not (eqb i j) ∷ [])
       (exists wrote f (λ i' q e. every (eqb i' i ∷ ltb p q ∷ eqb (e .kind) P ∷ eqb (e .transaction) (h .transaction) ∷ [])))
 
   abbrev t6 : ℕ → ℕ → Held → ℕ → ℕ → Held → Bool
@@ -132,8 +132,8 @@ module _ (f : ℕ) (wrote : ℕ → List Entry) (coordinatorOf : ℕ → ℕ) wh
 
   abbrev t9 : ℕ → ℕ → Held → ℕ → ℕ → Held → Bool
   t9 i p h j q g =
-      implies (eqb i j ∷ ltb p q ∷ leb (h .kind) DELETE ∷ leb (g .kind) DELETE ∷ eqb (key h) (key g) ∷ not (eqb (h .transaction) (g .transaction)) ∷ [])
-      (exists wrote f (λ i' r e. every (eqb i' i ∷ ltb p r ∷ ltb r q ∷ leb CC (e .kind) ∷ eqb (e .transaction) (h .transaction) ∷ [])))
+      implies (eqb i j ∷ ltb p q ∷ leb PUT (h .kind) ∷ leb (h .kind) DELETE ∷ leb PUT (g .kind) ∷ leb (g .kind) DELETE ∷ eqb (key h) (key g) ∷ not (eqb (h .transaction) (g .transaction)) ∷ [])
+      (exists wrote f (λ i' r e. every (eqb i' i ∷ ltb p r ∷ ltb r q ∷ leb CC (e .kind) ∷ leb (e .kind) A ∷ eqb (e .transaction) (h .transaction) ∷ [])))
 
   unfoldable pub keepsRules : Bool
   keepsRules = every (forAll wrote f t1 ∷ forAll wrote f t2 ∷ pairs t3 ∷ pairs t4 ∷ pairs t5 ∷ pairs t6 ∷ forAll wrote f t7 ∷ pairs t8 ∷ pairs t9 ∷ [])
@@ -150,17 +150,17 @@ module _ (f : ℕ) (wrote : ℕ → List Entry) (coordinatorOf : ℕ → ℕ) wh
     one-prepare = λ {i} {p} {q} {t} {h} {g} x y l k m.
       no-way (holds _ (two-of t3 (n 2) x y) (eq-eqb i i refl ⊕ lt-ltb p q l ⊕ eq-eqb (h .kind) P (k .0) ⊕ eq-eqb (g .kind) P (m .0) ⊕ same h g t (k .1) (m .1) ⊕ nil));
     nothing-follows = λ {i} {p} {q} {t} {h} {g} x y l k m.
-      no-way (holds _ (two-of t4 (n 3) x y) (eq-eqb i i refl ⊕ lt-ltb p q l ⊕ le-leb CC (h .kind) (k .0) ⊕ same h g t (k .1) m ⊕ nil));
+      no-way (holds _ (two-of t4 (n 3) x y) (eq-eqb i i refl ⊕ lt-ltb p q l ⊕ le-leb CC (h .kind) (k .0) ⊕ le-leb (h .kind) A (k .1) ⊕ same h g t (k .2) m ⊕ nil));
     prepared-after = λ {i} {j} {p} {c} {t} {h} {g} y k x m d.
-      after i p t h (m .1) (there-is wrote f f _ (omega arith) (holds _ (two-of t5 (n 4) y x) (eq-eqb (g .kind) CC (k .0) ⊕ le-leb (h .kind) DELETE (m .0) ⊕ same g h t (k .1) (m .1) ⊕ differ d ⊕ nil)));
+      after i p t h (m .2) (there-is wrote f f _ (omega arith) (holds _ (two-of t5 (n 4) y x) (eq-eqb (g .kind) CC (k .0) ⊕ le-leb PUT (h .kind) (m .0) ⊕ le-leb (h .kind) DELETE (m .1) ⊕ same g h t (k .1) (m .2) ⊕ differ d ⊕ nil)));
     prepared-by = λ {i} {j} {p} {c} {t} {h} {g} y k x m.
       leb-true (h .epoch) (g .epoch) (holds _ (two-of t6 (n 5) y x) (eq-eqb (g .kind) CC (k .0) ⊕ eq-eqb (h .kind) P (m .0) ⊕ same g h t (k .1) (m .1) ⊕ nil));
     commit-decided = λ {i} {p} {t} {h} x k. decided t h (k .1) (there-is wrote f f _ (omega arith) (holds _ (one-of t7 (n 6) x) (eq-eqb (h .kind) CP (k .0) ⊕ nil)));
     never-both = λ {i} {j} {p} {c} {t} {h} {g} y k x m.
       no-way (holds _ (two-of t8 (n 7) y x) (eq-eqb (g .kind) CC (k .0) ⊕ eq-eqb (h .kind) A (m .0) ⊕ same g h t (k .1) (m .1) ⊕ nil));
     key-kept = λ {i} {p} {q} {t} {u} {h} {g} x y l k m e d.
-      between i p q t h (k .1) (there-is wrote f f _ (omega arith) (holds _ (two-of t9 (n 8) x y)
-      (eq-eqb i i refl ⊕ lt-ltb p q l ⊕ le-leb (h .kind) DELETE (k .0) ⊕ le-leb (g .kind) DELETE (m .0) ⊕ eq-eqb (key h) (key g) e ⊕ differ (λ s. d (sym (k .1) ∙ s ∙ m .1)) ⊕ nil)));
+      between i p q t h (k .2) (there-is wrote f f _ (omega arith) (holds _ (two-of t9 (n 8) x y)
+      (eq-eqb i i refl ⊕ lt-ltb p q l ⊕ le-leb PUT (h .kind) (k .0) ⊕ le-leb (h .kind) DELETE (k .1) ⊕ le-leb PUT (g .kind) (m .0) ⊕ le-leb (g .kind) DELETE (m .1) ⊕ eq-eqb (key h) (key g) e ⊕ differ (λ s. d (sym (k .2) ∙ s ∙ m .2)) ⊕ nil)));
   }
     where
       n : (i : ℕ) → getD (forAll wrote f t1 ∷ forAll wrote f t2 ∷ pairs t3 ∷ pairs t4 ∷ pairs t5 ∷ pairs t6 ∷ forAll wrote f t7 ∷ pairs t8 ∷ pairs t9 ∷ []) i true ≡ true
@@ -181,8 +181,8 @@ module _ (f : ℕ) (wrote : ℕ → List Entry) (coordinatorOf : ℕ → ℕ) wh
           (j, c, g, s, (eqb-true (g .kind) CC (d 0), eqb-true (g .transaction) (h .transaction) (d 1) ∙ m), leb-true (g .epoch) (h .epoch) (d 2))
 
       between : (i p q t : ℕ) (h : Held) → h .transaction ≡ t
-          → (i' : ℕ) × (r : ℕ) × (e : Held) × Stands f wrote i' r e × (every (eqb i' i ∷ ltb p r ∷ ltb r q ∷ leb CC (e .kind) ∷ eqb (e .transaction) (h .transaction) ∷ []) ≡ true)
+          → (i' : ℕ) × (r : ℕ) × (e : Held) × Stands f wrote i' r e × (every (eqb i' i ∷ ltb p r ∷ ltb r q ∷ leb CC (e .kind) ∷ leb (e .kind) A ∷ eqb (e .transaction) (h .transaction) ∷ []) ≡ true)
           → (r : ℕ) × (e : Held) × (p < r) × (r < q) × Stands f wrote i r e × Ends f wrote t e
       between i p q t h m (i', r, e, s, v) =
           let c = nth _ v in
-          (r, e, ltb-true p r (c 1), ltb-true r q (c 2), rw (eqb-true i' i (c 0)) at s, (leb-true CC (e .kind) (c 3), eqb-true (e .transaction) (h .transaction) (c 4) ∙ m))
+          (r, e, ltb-true p r (c 1), ltb-true r q (c 2), rw (eqb-true i' i (c 0)) at s, (leb-true CC (e .kind) (c 3), leb-true (e .kind) A (c 4), eqb-true (e .transaction) (h .transaction) (c 5) ∙ m))
