@@ -3,3 +3,5 @@ pub mod Judged
 pub mod Runs
 pub mod Working
 pub mod Own
+pub mod Survivors
+pub mod Together
