@@ -5,3 +5,4 @@ pub mod Working
 pub mod Own
 pub mod Survivors
 pub mod Together
+pub mod Once
