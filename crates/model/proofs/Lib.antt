@@ -6,3 +6,6 @@ pub mod Own
 pub mod Survivors
 pub mod Together
 pub mod Once
+pub mod WriteOrder
+pub mod Earlier
+pub mod Prefix
