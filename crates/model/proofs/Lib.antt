@@ -4,6 +4,11 @@ pub mod Runs
 pub mod Working
 pub mod Own
 pub mod Survivors
+pub mod Together
+pub mod Once
+pub mod WriteOrder
+pub mod Earlier
+pub mod Prefix
 pub mod Epochs
 pub mod RuleTest
 pub mod WorkedLog
