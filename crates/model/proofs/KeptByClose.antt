@@ -1,5 +1,5 @@
 -- What is asked of a stream's held entries is kept by a close, by one more entry, and by a raised open epoch. Assumes nothing.
-use Prim.Native.Nat.{ℕ, zero, suc, _<_, _≤_}
+use Prim.Native.Nat.{ℕ, suc, _<_, _≤_}
 use mathlib.Core.Path.{_≡_, refl, sym, ap, _∙_}
 use mathlib.Core.Logic.{_⊎_, inl, inr, ⊎-elim}
 use mathlib.Core.Bool.{Bool, true, false, not, _&&_, _||_, and-true, and-assoc, or-true}
@@ -8,10 +8,10 @@ use native.Mathlib.Omega.{arith}
 use native.Mathlib.Decide.{decLt, ℕ-discrete}
 use lib.Dec.{leb, ltb, eqb}
 use borrow.Author.Tests.{eq-eqb, ne-eqb, eqb-true, eqb-false, leb-true, leb-false, le-leb, lt-leb, lt-ltb}
-use Rattle.model.specs.Lists.{if_then_else_, filter, any, all, every}
+use Rattle.model.specs.Lists.{if_then_else_, any, all, every}
 use Rattle.model.specs.Entry.{DELETE, P, CC, CP, A}
 use Rattle.model.specs.Account.{Held, coordinator}
-use Rattle.model.specs.Stages.{stageAfter, stageFrom, stage, isUnheard, isWriting, isPrepared, takes}
+use Rattle.model.specs.Stages.{stageAfter, stageFrom, stage, isUnheard, isPrepared, takes}
 use Rattle.model.specs.Taking.{hold}
 use Rattle.model.specs.Closing.{upto, is, flaggedP, unflaggedP, Verdict, free, install, flag, stay, verdict, withFlag, left, survivors}
 use Rattle.model.specs.Accepting.{entryFits, follows, streamFits}
@@ -20,7 +20,7 @@ use Rattle.model.specs.declared.Stage.{Stage}
 use Rattle.model.specs.declared.Stage.the-variants.{Unheard, Writing, Prepared, Ended}
 use Rattle.model.proofs.Tests.{no-way, and-l, and-r, either, nth, any-in, any-out, all-in, all-snoc, filter-in, in-filter}
 
-abbrev In : Held → List Held → Type 0
+abbrev pub In : Held → List Held → Type 0
 In h hs = List·Memᴰ h hs
 
 -- ---- the stage of a transaction
@@ -212,6 +212,9 @@ module _ (f k i c o : ℕ) where
   placed before (h ∷ hs) w (List·Memᴰ·tail m) =
       let r = placed (before ++ h ∷ []) hs (first before h hs w .rest) m in
       record { earlier = r .earlier; fits = r .fits; place = r .place; all-before = λ m. r .all-before (Memᴰ·append-left (h ∷ []) m); all-there = λ m. rw append-assoc at (r .all-there m) }
+
+  pub fits-in : {g : Held} (hs : List Held) → streamFits f k i c o [] hs ≡ true → In g hs → entryFits f k i g ≡ true
+  fits-in hs w m = placed [] hs w m .fits
 
   -- ---- the close of epoch c + 1
 
@@ -409,7 +412,7 @@ module _ (f k i c o : ℕ) where
         n : (any (is A (g .transaction)) es ≡ false) × (any (is CC (g .transaction)) es ≡ false) × (any (is CP (g .transaction)) es ≡ false)
         n = no-end (g .transaction) q
         small : g .kind ≤ A
-        small = leb-true (g .kind) A (nth _ (placed [] hs w m .fits) 0)
+        small = leb-true (g .kind) A (nth _ (fits-in hs w m) 0)
         one : (kd : ℕ) → g .kind ≡ kd → any (is kd (g .transaction)) es ≡ true
         one kd e = looked-at (is kd (g .transaction)) m l (rw (eq-eqb (g .kind) kd e, eq-eqb (g .transaction) (g .transaction) refl))
         which : (g .kind < CC → ⊥) → Dec (g .kind ≡ CC) → Dec (g .kind ≡ CP) → g .kind < CC

@@ -1,2 +1,5 @@
 pub mod Tests
+pub mod Judged
+pub mod Sums
 pub mod KeptByClose
+pub mod Keeping
