@@ -1,5 +1,8 @@
 pub mod Tests
 pub mod Judged
+pub mod Sums
+pub mod KeptByClose
+pub mod Keeping
 pub mod Runs
 pub mod Working
 pub mod Own

@@ -1,9 +1,9 @@
 -- Laws of tests on Bools and lists. Assumes nothing.
 use Prim.Native.Nat.{ℕ, zero, suc, _≤_, _<_}
 use mathlib.Core.Path.{_≡_, refl, sym, ap, _∙_, fun-ext}
-use mathlib.Core.Logic.{_⊎_, inl, inr}
+use mathlib.Core.Logic.{_⊎_, inl, inr, ⊎-elim}
 use mathlib.Core.Bool.{Bool, true, false, not, _&&_, _||_, and-true, and-assoc}
-use mathlib.Core.List.{List, [], _∷_, _++_, map, List·Memᴰ, List·Memᴰ·head, List·Memᴰ·tail}
+use mathlib.Core.List.{List, [], _∷_, _++_, map, List·Memᴰ, List·Memᴰ·head, List·Memᴰ·tail, List·Memᴰ·cases-cons, List·Memᴰ·not-nil}
 use native.Mathlib.Omega.{arith}
 use lib.ListN.{getD}
 use Rattle.model.specs.Lists.{if_then_else_, filter, any, all, every}
@@ -119,3 +119,26 @@ module _ {X : Type 0} where
   unfolding all
   all-snoc p [] x = and-true (p x)
   all-snoc p (y ∷ xs) x = rw (all-snoc p xs x) (sym (and-assoc (p y) (all p xs) (p x)))
+
+  pub all-in : (p : X → Bool) {x : X} {xs : List X} → all p xs ≡ true → List·Memᴰ x xs → p x ≡ true
+  unfolding all
+  all-in p a (List·Memᴰ·head {x = y} e) = rw e (and-l (p y) _ a)
+  all-in p a (List·Memᴰ·tail {x = y} m) = all-in p (and-r (p y) _ a) m
+
+  pub filter-in : (p : X → Bool) {x : X} {xs : List X} → List·Memᴰ x xs → p x ≡ true → List·Memᴰ x (filter p xs)
+  unfolding filter
+  filter-in p (List·Memᴰ·head e) t = rw (← e, t) (List·Memᴰ·head refl)
+  filter-in p {x} (List·Memᴰ·tail {x = y} {xs = xs} m) t = go (p y) (filter-in p m t)
+    where
+      go : (b : Bool) → List·Memᴰ x (filter p xs) → List·Memᴰ x (if b then y ∷ filter p xs else filter p xs)
+      go true r = List·Memᴰ·tail r
+      go false r = r
+
+  pub in-filter : (p : X → Bool) {x : X} (xs : List X) → List·Memᴰ x (filter p xs) → List·Memᴰ x xs × (p x ≡ true)
+  unfolding filter
+  in-filter p [] m = absurd (List·Memᴰ·not-nil m)
+  in-filter p {x} (y ∷ ys) m = go (p y) refl m (in-filter p ys)
+    where
+      go : (b : Bool) → p y ≡ b → List·Memᴰ x (if b then y ∷ filter p ys else filter p ys) → (List·Memᴰ x (filter p ys) → List·Memᴰ x ys × (p x ≡ true)) → List·Memᴰ x (y ∷ ys) × (p x ≡ true)
+      go true e m ih = ⊎-elim (λ z. (List·Memᴰ·head z, rw z e)) (λ z. let r = ih z in (List·Memᴰ·tail (r .0), r .1)) (List·Memᴰ·cases-cons m)
+      go false e m ih = let r = ih m in (List·Memᴰ·tail (r .0), r .1)
