@@ -9,3 +9,4 @@ pub mod Once
 pub mod WriteOrder
 pub mod Earlier
 pub mod Prefix
+pub mod Records

@@ -228,6 +228,10 @@ flag-by d es t = go (any (is A t) es) (any (is CC t) es || any (is CP t) es && a
 abbrev pub Decided : (ℕ → List Held) → ℕ → ℕ → Type 0
 Decided L n t = (j : ℕ) × (g : Held) × In g (L j) × (g .kind ≡ CC) × (g .transaction ≡ t) × (g .epoch ≤ n)
 
+-- and in epoch n
+abbrev pub DecidedIn : (ℕ → List Held) → ℕ → ℕ → Type 0
+DecidedIn L n t = (j : ℕ) × (g : Held) × In g (L j) × (g .kind ≡ CC) × (g .transaction ≡ t) × (g .epoch ≡ n)
+
 -- the piece (i, t) has been installed by close m
 abbrev pub Installed : Account → ℕ → ℕ → ℕ → Type 0
 Installed a m i t = (k : ℕ) × (k < m) × (any (λ u. eqb u t) (installed (closes k a) i) ≡ true)
