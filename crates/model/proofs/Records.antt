@@ -18,7 +18,7 @@ use Rattle.model.proofs.Runs.{closes}
 use Rattle.model.proofs.Working.{In, streams, Kept, Ordered, in-at, at-in, one-place}
 use Rattle.model.proofs.Own.{of}
 use Rattle.model.proofs.Survivors.{Same, Thinned, thinned-filter, thinned-two}
-use Rattle.model.proofs.Together.{to-is, upto-some, commits, Commits, commits-is, verdictOf, no-abort, verdict-cc, DecidedIn, Installed, thinned-log, from-log, closed-closes, stays}
+use Rattle.model.proofs.Together.{to-is, upto-some, commits, Commits, commits-is, verdictOf, no-abort, verdict-cc, Decided, DecidedIn, commits-decided, commits-same, Installed, thinned-log, from-log, closed-closes, stays}
 use Rattle.model.proofs.Once.{on-log, once}
 use Rattle.model.proofs.WriteOrder.{after-none, after-filter, Pairs, pairs-append, picked, in-picked, picked-in, pairs-picked, Clear, apply-all}
 
@@ -89,12 +89,11 @@ module _ (a : Account) (z : a .closed ≡ 0) (K : Kept (streams a)) (O : Ordered
       go (inr (p, e, l, b, ke, te)) = omega (arith, O .rising x b (omega arith), K .intime (at-in b) y ke c (te ∙ t))
 
   -- between a write of k by u and another's stands the CC or CP of u
-  Between : ℕ → ℕ → ℕ → ℕ → Type 0
-  Between u n q b = (r : ℕ) × (e : Held) × (r < q) × At e (streams a i) r × (e .transaction ≡ u) × (Commits e) × (n ≤ e .epoch) × (e .epoch ≤ b)
+  abbrev Between : ℕ → ℕ → ℕ → ℕ → Type 0
+  Between u n q b = (r : ℕ) × (e : Held) × (r < q) × At e (streams a i) r × (e .transaction ≡ u) × Commits e × (n ≤ e .epoch) × (e .epoch ≤ b)
 
   between : {j p q : ℕ} {g h f : Held} → In g (streams a j) → g .kind ≡ CC → p < q → At h (streams a i) p → At f (streams a i) q
       → writesTo k h ≡ true → h .transaction ≡ g .transaction → writesTo k f ≡ true → f .transaction ≢ g .transaction → Between (g .transaction) (g .epoch) q (f .epoch)
-  unfolding Between
   between {j} {p} {q} {g} {h} {f} y c l x b w t w′ d =
       go (O .apart x b l (leb-true (h .kind) DELETE (and-l _ _ w)) (leb-true (f .kind) DELETE (and-l _ _ w′))
       (eqb-true (key h) k (and-r (leb (h .kind) DELETE) _ w) ∙ sym (eqb-true (key f) k (and-r (leb (f .kind) DELETE) _ w′))) (λ s. d (sym s ∙ t)))
@@ -107,33 +106,31 @@ module _ (a : Account) (z : a .closed ≡ 0) (K : Kept (streams a)) (O : Ordered
           cases (no m) (yes n) = inr n
           cases (no m) (no n) = absurd (K .kept v y (omega (arith, O .no-mark v)) c u)
 
-      from : (e : Held) → In e (streams a i) → e .transaction ≡ g .transaction → Commits e → g .epoch ≤ e .epoch
-      from e v u (inl m) = omega (arith, K .one v y m c u)
-      from e v u (inr m) = let s = K .backed v m in omega (arith, s .5, K .one (s .2) y (s .3) c (s .4 ∙ u))
-
       go : (r : ℕ) × (e : Held) × (p < r) × (r < q) × At e (streams a i) r × (CC ≤ e .kind) × (e .transaction ≡ h .transaction) → Between (g .transaction) (g .epoch) q (f .epoch)
       go (r, e, l₁, l₂, v, s, u) =
           let ks = kinds e (at-in v) s (u ∙ t) in
-          (r, e, l₂, v, u ∙ t, ks, from e (at-in v) (u ∙ t) ks, O .rising v b (omega arith))
+          let d = commits-decided K (at-in v) ks in
+          (r, e, l₂, v, u ∙ t, ks, omega (arith, d .5, K .one (d .2) y (d .3) c (d .4 ∙ u ∙ t)), O .rising v b (omega arith))
 
   -- one that was installed by an earlier close
   clear-earlier : {j j′ : ℕ} {x u : Held} → In x (streams a j) → x .kind ≡ CC → In u (streams a j′) → u .kind ≡ CC → x .epoch < u .epoch → Clear k (streams a i) (x .transaction) (u .transaction)
-  unfolding Between
   clear-earlier {x = x} {u = u} yx cx yu cu l p q h f lt ah af wh th wf tf =
       let r = between yu cu lt ah af wh th wf (λ e. omega (arith, K .one yx yu cx cu (sym tf ∙ e))) in
       omega (arith, r .6, r .7, write-epoch af (leb-true (f .kind) DELETE (and-l _ _ wf)) yx cx tf)
-
-  decided : (e : Held) → In e (streams a i) → Commits e → (j : ℕ) × (g : Held) × In g (streams a j) × (g .kind ≡ CC) × (g .transaction ≡ e .transaction)
-  decided e x (inl c) = (i, e, x, c, refl)
-  decided e x (inr c) = let r = K .backed x c in (r .0, r .1, r .2, r .3, r .4)
 
   end-le : (e : Held) → Commits e → CC ≤ e .kind
   end-le e (inl p) = omega arith
   end-le e (inr p) = omega arith
 
-  like : {e f : Held} → Same e f → Commits e → Commits f
-  like s (inl p) = inl (sym (s .kind) ∙ p)
-  like s (inr p) = inr (sym (s .kind) ∙ p)
+  -- two with CC or CP, by the order of those
+  clear-commits : {p q : ℕ} {e f : Held} → p < q → At e (streams a i) p → At f (streams a i) q → Commits e → Commits f → Clear k (streams a i) (e .transaction) (f .transaction)
+  clear-commits {e = e} {f = f} l ae af ke kf p′ q′ h w lt ah aw wh th ww tw = go (commits-decided K (at-in af) kf)
+    where
+      go : Decided (streams a) (f .epoch) (f .transaction) → ⊥
+      go (j, g, y, c, t, b) = ended (between y c lt ah aw wh (th ∙ sym t) ww (λ s. O .last ae af l (end-le e ke) (sym tw ∙ s ∙ t)))
+        where
+          ended : Between (g .transaction) (g .epoch) q′ (w .epoch) → ⊥
+          ended (r, e′, l′, v, u, d, b₁, b₂) = O .last ae aw (omega (arith, one-place O (end-le e′ d) (end-le f kf) (u ∙ t) v af)) (end-le e ke) (sym tw)
 
   module _ (m : ℕ) where
     abbrev n : ℕ
@@ -174,18 +171,6 @@ module _ (a : Account) (z : a .closed ≡ 0) (K : Kept (streams a)) (O : Ordered
             let d : h .kind ≤ DELETE = leb-true (h .kind) DELETE (and-l _ _ (and-l (writesTo k h) _ w)) in
             le-leb (h .epoch) n (omega (arith, n-suc, r .2 .epoch, write-epoch (in-at (r .1) .1) (omega (arith, r .2 .kind)) x c (sym (r .2 .transaction) ∙ eqb-true (h .transaction) t (and-r (writesTo k h) _ w) ∙ sym q)))
 
-    -- of two with CC or CP
-    clear-ends : (p q : ℕ) (e f : Held) → p < q → At e es p → At f es q → Commits e → Commits f → Clear k (streams a i) (e .transaction) (f .transaction)
-    unfolding Between
-    clear-ends p q e f l ae af ke kf p′ q′ h w lt ah aw wh th ww tw =
-        let T = thinned-two thinned l ae af in
-        let kX = end-le (T .first) (like (T .like-p) ke) in
-        let kU = like (T .like-q) kf in
-        let d = decided (T .second) (at-in (T .at-q)) kU in
-        let r = between (d .2) (d .3) lt ah aw wh (th ∙ T .like-q .transaction ∙ sym (d .4)) ww (λ s. O .last (T .at-p) (T .at-q) (T .lt) kX (sym (T .like-p .transaction) ∙ sym tw ∙ s ∙ d .4)) in
-        let s = one-place O (end-le (r .1) (r .5)) (end-le (T .second) kU) (r .4 ∙ d .4) (r .3) (T .at-q) in
-        O .last (T .at-p) aw (omega (arith, T .lt, r .2, s)) kX (sym (T .like-p .transaction) ∙ sym tw)
-
     verdict-end : {j : ℕ} {g e : Held} → In g (streams a j) → g .kind ≡ CC → g .epoch ≡ n → In e (streams a i) → e .epoch ≤ n → e .transaction ≡ g .transaction → Commits e
         → verdictOf n (streams a) i (g .transaction) ≡ install
     unfolding verdict
@@ -202,7 +187,6 @@ module _ (a : Account) (z : a .closed ≡ 0) (K : Kept (streams a)) (O : Ordered
 
     -- of any and one that is flagged
     clear-flag : (x u : ℕ) → DecidedIn (streams a) (suc m) x → DecidedIn (streams a) (suc m) u → x ≢ u → v u ≡ flag → Clear k (streams a i) x u
-    unfolding Between
     clear-flag x u (jx, gx, yx, cx, qx, ex) (ju, gu, yu, cu, qu, eu) d fl p q h w lt ah aw wh th ww tw =
         let r = between yu cu lt ah aw wh (th ∙ sym qu) ww (λ s. d (sym tw ∙ s ∙ qu)) in
         let b = write-epoch aw (leb-true (w .kind) DELETE (and-l _ _ ww)) yx cx (tw ∙ sym qx) in
@@ -229,7 +213,7 @@ module _ (a : Account) (z : a .closed ≡ 0) (K : Kept (streams a)) (O : Ordered
 
     clear-pairs : Pairs (Clear k (streams a i)) (installed (closes m a) i)
     clear-pairs = rw is-pieces (pairs-append (Clear k (streams a i)) (picked E₁ es) (picked E₂ es)
-        (pairs-picked (Clear k (streams a i)) E₁ es (λ p q e f l ae af te tf. clear-ends p q e f l ae af (commits-is e (and-l _ _ te)) (commits-is f (and-l _ _ tf))))
+        (pairs-picked (Clear k (streams a i)) E₁ es first)
         (pairs-picked (Clear k (streams a i)) E₂ es second) across)
       where
         is-p : (e : Held) → E₂ e ≡ true → e .kind ≡ P
@@ -237,6 +221,12 @@ module _ (a : Account) (z : a .closed ≡ 0) (K : Kept (streams a)) (O : Ordered
 
         is-flag : (e : Held) → E₂ e ≡ true → v (e .transaction) ≡ flag
         is-flag e t = to-flag (v (e .transaction)) (and-r (eqb (e .kind) P) _ t)
+
+        first : (p q : ℕ) (e f : Held) → p < q → At e es p → At f es q → E₁ e ≡ true → E₁ f ≡ true → Clear k (streams a i) (e .transaction) (f .transaction)
+        first p q e f l ae af te tf p′ q′ h w lt ah aw wh th ww tw =
+            let T = thinned-two thinned l ae af in
+            clear-commits (T .lt) (T .at-p) (T .at-q) (commits-same (T .like-p) (commits-is e (and-l _ _ te))) (commits-same (T .like-q) (commits-is f (and-l _ _ tf)))
+            p′ q′ h w lt ah aw wh (th ∙ T .like-q .transaction) ww (tw ∙ T .like-p .transaction)
 
         second : (p q : ℕ) (e f : Held) → p < q → At e es p → At f es q → E₂ e ≡ true → E₂ f ≡ true → Clear k (streams a i) (e .transaction) (f .transaction)
         second p q e f l ae af te tf =
