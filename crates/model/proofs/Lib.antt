@@ -11,8 +11,10 @@ pub mod Together
 pub mod Once
 pub mod WriteOrder
 pub mod Earlier
+pub mod Records
 pub mod Prefix
 pub mod Epochs
 pub mod RuleTest
 pub mod WorkedLog
 pub mod TakenLog
+pub mod Followed

@@ -18,7 +18,7 @@ use Rattle.model.proofs.Runs.{closes}
 use Rattle.model.proofs.Working.{In, streams, Kept, Ordered, in-at, at-in, one-end}
 use Rattle.model.proofs.Own.{of, same-verdict}
 use Rattle.model.proofs.Survivors.{Same, Survived, as-was, flags-p, survived, keeps-stay, keeps-flag}
-use Rattle.model.proofs.Together.{is-kind, is-transaction, to-is, upto-none, upto-some, upto-out, ends, pieces-test, verdictOf, Settles, by-end, by-flag, verdict-cc, verdict-p, Decided, from-log, closed-closes, stays, only}
+use Rattle.model.proofs.Together.{is-kind, is-transaction, to-is, upto-none, upto-some, upto-out, ends, pieces-test, verdictOf, Settles, by-end, by-flag, verdict-cc, verdict-p, Decided, DecidedIn, from-log, closed-closes, stays, only}
 
 -- ---- the entries of t, here and there
 
@@ -243,12 +243,12 @@ module _ (a : Account) (z : a .closed ≡ 0) (K : Kept (streams a)) (O : Ordered
         pieces-test w (g .transaction) es ∙ neither (any (ends (g .transaction)) es) (any (is P (g .transaction)) es) (w (g .transaction)) (spent-verdict m l (spent m l) i)
 
   -- a close installs a transaction's pieces exactly where its CC stands in that epoch
-  pub once : (m i t : ℕ) → any (λ u. eqb u t) (installed (closes m a) i) ≡ true → (j : ℕ) × (g : Held) × In g (streams a j) × (g .kind ≡ CC) × (g .transaction ≡ t) × (g .epoch ≡ suc m)
+  pub once : (m i t : ℕ) → any (λ u. eqb u t) (installed (closes m a) i) ≡ true → DecidedIn (streams a) (suc m) t
   once m i t e = go (only a z K m i t e)
     where
-      go : Decided (streams a) (suc m) t → (j : ℕ) × (g : Held) × In g (streams a j) × (g .kind ≡ CC) × (g .transaction ≡ t) × (g .epoch ≡ suc m)
+      go : Decided (streams a) (suc m) t → DecidedIn (streams a) (suc m) t
       go (j, g, x, c, q, l) = cases (decLe (g .epoch) m)
         where
-          cases : Dec (g .epoch ≤ m) → (j : ℕ) × (g : Held) × In g (streams a j) × (g .kind ≡ CC) × (g .transaction ≡ t) × (g .epoch ≡ suc m)
+          cases : Dec (g .epoch ≤ m) → DecidedIn (streams a) (suc m) t
           cases (yes b) = no-way (sym (rw (← q) (not-again x c m b i)) ∙ e)
           cases (no b) = (j, g, x, c, q, omega arith)

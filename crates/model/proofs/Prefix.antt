@@ -27,24 +27,24 @@ takeList-records s (e ∷ es) = takeList-records (take s e) es
 
 -- ---- closes change neither the open epochs nor the number of fragments
 
-closes-closed : (m : ℕ) (a : Account) → closes m a .closed ≡ a .closed + m
+pub closes-closed : (m : ℕ) (a : Account) → closes m a .closed ≡ a .closed + m
 unfolding closes close
 closes-closed zero a = omega arith
 closes-closed (suc m) a = omega (arith, closes-closed m a)
 
-closes-fragments : (m : ℕ) (a : Account) → closes m a .fragments ≡ a .fragments
+pub closes-fragments : (m : ℕ) (a : Account) → closes m a .fragments ≡ a .fragments
 unfolding closes close
 closes-fragments zero a = refl
 closes-fragments (suc m) a = closes-fragments m a
 
-closes-epoch : (m : ℕ) (a : Account) (i : ℕ) → closes m a .at i .counters .epoch ≡ a .at i .counters .epoch
+pub closes-epoch : (m : ℕ) (a : Account) (i : ℕ) → closes m a .at i .counters .epoch ≡ a .at i .counters .epoch
 unfolding closes close settle
 closes-epoch zero a i = refl
 closes-epoch (suc m) a i = closes-epoch m a i
 
 module _ (a : Account) (es : ℕ → List Entry) (o : (j : ℕ) → a .fragments ≤ j → es j ≡ []) where
   -- every stream has taken the marks up to closed + m
-  abbrev Marked : ℕ → Type 0
+  abbrev pub Marked : ℕ → Type 0
   Marked m = (i : ℕ) → i < a .fragments → a .closed + m < a .at i .counters .epoch
 
   ready : (m : ℕ) → Marked (suc m) → Ready (closes m a)

@@ -89,21 +89,21 @@ settle-takes n d s (e ∷ es) l = settle-takes n d (take s e) es (omega (arith, 
 -- ---- a close among the takes
 
 module _ (a : Account) (es : ℕ → List Entry) (r : Ready a) (o : (j : ℕ) → a .fragments ≤ j → es j ≡ []) where
+  -- a stream is a fragment's, or takes nothing
+  each : (F : List Entry → Type 0) (j : ℕ) → F [] → (j < a .fragments → F (es j)) → F (es j)
+  each F j n f = go (decLt j (a .fragments))
+    where
+      go : Dec (j < a .fragments) → F (es j)
+      go (yes l) = f l
+      go (no k) = rw (o j (omega arith)) n
+
   same-upto : (j : ℕ) → upto (suc (a .closed)) (takeList (a .at j) (es j) .held) ≡ upto (suc (a .closed)) (a .at j .held)
   unfolding takeList
-  same-upto j = go (decLt j (a .fragments))
-    where
-      go : Dec (j < a .fragments) → upto (suc (a .closed)) (takeList (a .at j) (es j) .held) ≡ upto (suc (a .closed)) (a .at j .held)
-      go (yes l) = upto-takes (suc (a .closed)) (a .at j) (es j) (r j l)
-      go (no k) = rw (o j (omega arith))
+  same-upto j = each (λ fs. upto (suc (a .closed)) (takeList (a .at j) fs .held) ≡ upto (suc (a .closed)) (a .at j .held)) j refl (λ l. upto-takes (suc (a .closed)) (a .at j) (es j) (r j l))
 
   same-settle : (d : ℕ → ℕ → Bool) (j : ℕ) → takeList (settle (suc (a .closed)) d (a .at j)) (es j) ≡ settle (suc (a .closed)) d (takeList (a .at j) (es j))
   unfolding takeList
-  same-settle d j = go (decLt j (a .fragments))
-    where
-      go : Dec (j < a .fragments) → takeList (settle (suc (a .closed)) d (a .at j)) (es j) ≡ settle (suc (a .closed)) d (takeList (a .at j) (es j))
-      go (yes l) = sym (settle-takes (suc (a .closed)) d (a .at j) (es j) (r j l))
-      go (no k) = rw (o j (omega arith))
+  same-settle d j = each (λ fs. takeList (settle (suc (a .closed)) d (a .at j)) fs ≡ settle (suc (a .closed)) d (takeList (a .at j) fs)) j refl (λ l. sym (settle-takes (suc (a .closed)) d (a .at j) (es j) (r j l)))
 
   same-committed : committed (suc (a .closed)) (λ c. takeAll es a .at c .held) ≡ committed (suc (a .closed)) (λ c. a .at c .held)
   unfolding committed takeAll
@@ -123,7 +123,7 @@ module _ (a : Account) (es : ℕ → List Entry) (r : Ready a) (o : (j : ℕ) �
 
 -- ---- runs
 
-log-outside : (ss : List Step) (a : Account) → Allowed ss a → (j : ℕ) → a .fragments ≤ j → log ss j ≡ []
+pub log-outside : (ss : List Step) (a : Account) → Allowed ss a → (j : ℕ) → a .fragments ≤ j → log ss j ≡ []
 unfolding Allowed log taken close
 log-outside [] a l j h = refl
 log-outside (taking e ∷ ss) a l j h = rw (ne-eqb (e .fragment) j (λ q. omega (arith, taken-facts a e (l .0) .fragment))) (log-outside ss (taken e a) (l .1) j h)

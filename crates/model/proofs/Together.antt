@@ -210,6 +210,14 @@ module _ (L : ℕ → List Held) (K : Kept L) {j : ℕ} {g : Held} (m : In g (L 
           go (by-end v e y l u w) = at-end i (upto-some _ n y l (and (to-commits e w) (eq-eqb (e .transaction) (g .transaction) u))) v
           go (by-flag v) = at-p i (upto-some _ n x (omega (arith, K .intime x m k c t)) (to-is h k t)) v
 
+-- CC(t) stands in some stream, in an epoch up to n
+abbrev pub Decided : (ℕ → List Held) → ℕ → ℕ → Type 0
+Decided L n t = (j : ℕ) × (g : Held) × In g (L j) × (g .kind ≡ CC) × (g .transaction ≡ t) × (g .epoch ≤ n)
+
+-- and in epoch n
+abbrev pub DecidedIn : (ℕ → List Held) → ℕ → ℕ → Type 0
+DecidedIn L n t = (j : ℕ) × (g : Held) × In g (L j) × (g .kind ≡ CC) × (g .transaction ≡ t) × (g .epoch ≡ n)
+
 -- a verdict that flags has found the coordinator's commit
 flag-by : (d : ℕ → ℕ → Bool) (es : List Held) (t : ℕ) → flags (verdict d es t) ≡ true → any (λ h. unflaggedP t h && d (coordinator h) t) es ≡ true
 unfolding verdict
@@ -222,11 +230,16 @@ flag-by d es t = go (any (is A t) es) (any (is CC t) es || any (is CP t) es && a
     go false false false true q = refl
     go false false false false q = q
 
--- ---- the account after m closes
+-- a CC or CP stands on a CC, in its epoch or an earlier one
+pub commits-decided : {L : ℕ → List Held} → Kept L → {i : ℕ} {h : Held} → In h (L i) → Commits h → Decided L (h .epoch) (h .transaction)
+commits-decided K {i} {h} x (inl c) = (i, h, x, c, refl, omega arith)
+commits-decided K x (inr c) = K .backed x c
 
--- CC(t) stands in some stream, in an epoch up to n
-abbrev pub Decided : (ℕ → List Held) → ℕ → ℕ → Type 0
-Decided L n t = (j : ℕ) × (g : Held) × In g (L j) × (g .kind ≡ CC) × (g .transaction ≡ t) × (g .epoch ≤ n)
+pub commits-same : {h g : Held} → Same h g → Commits h → Commits g
+commits-same s (inl k) = inl (sym (s .kind) ∙ k)
+commits-same s (inr k) = inr (sym (s .kind) ∙ k)
+
+-- ---- the account after m closes
 
 -- the piece (i, t) has been installed by close m
 abbrev pub Installed : Account → ℕ → ℕ → ℕ → Type 0
@@ -271,12 +284,16 @@ module _ (a : Account) (z : a .closed ≡ 0) (K : Kept (streams a)) where
         go (inl p) = now-p (streams a) K x c _ q i h y p t
         go (inr p) = now-cc (streams a) K x c _ q i h y p t
 
+  pub installed-by : {m i j : ℕ} {g h : Held} → In g (streams a j) → g .kind ≡ CC → g .epoch ≤ m → In h (streams a i) → h .transaction ≡ g .transaction → (h .kind ≡ P) ⊎ (h .kind ≡ CC) → Installed a m i (g .transaction)
+  installed-by {i = i} {g = g} {h = h} y c l x t k =
+      let r : g .epoch ≡ suc (pred (g .epoch)) = omega (arith, K .begun y) in
+      (pred (g .epoch), omega (arith, r), together y c (pred (g .epoch)) r i h x t k)
+
   held-ends : (m t i : ℕ) (h : Held) → In h (streams (closes m a) i) → h .epoch ≤ suc (closes m a .closed) → h .transaction ≡ t → Commits h → Decided (streams a) (suc m) t
-  held-ends m t i h x l q k = go (from-log a m {i = i} x) k
-    where
-      go : (g : Held) × In g (streams a i) × Same h g → Commits h → Decided (streams a) (suc m) t
-      go (g, y, s) (inl p) = (i, g, y, sym (s .kind) ∙ p, sym (s .transaction) ∙ q, omega (arith, closed-closes m, s .epoch))
-      go (g, y, s) (inr p) = let r = K .backed y (sym (s .kind) ∙ p) in (r .0, r .1, r .2, r .3, r .4 ∙ sym (s .transaction) ∙ q, omega (arith, r .5, closed-closes m, s .epoch))
+  held-ends m t i h x l q k =
+      let s = from-log a m {i = i} x in
+      let r = commits-decided K (s .1) (commits-same (s .2) k) in
+      (r .0, r .1, r .2, r .3, r .4 ∙ sym (s .2 .transaction) ∙ q, omega (arith, r .5, closed-closes m, s .2 .epoch))
 
   -- what a close installs has been decided by then
   pub only : (m i t : ℕ) → any (λ u. eqb u t) (installed (closes m a) i) ≡ true → Decided (streams a) (suc m) t
@@ -306,11 +323,8 @@ module _ (a : Account) (z : a .closed ≡ 0) (K : Kept (streams a)) where
   all-or-none m t i i′ h (k, l, e) x w q = go (only k i t e)
     where
       go : Decided (streams a) (suc k) t → Installed a m i′ t
-      go (j, g, y, c, q′, b) = done (K .prepares x y w c (q ∙ sym q′))
+      go (j, g, y, c, q′, b) = rw (← q′) (there (K .prepares x y w c (q ∙ sym q′)))
         where
-          r : g .epoch ≡ suc (pred (g .epoch))
-          r = omega (arith, K .begun y)
-
-          done : (i′ ≡ j) ⊎ ((p : Held) × In p (streams a i′) × (p .kind ≡ P) × (p .transaction ≡ h .transaction)) → Installed a m i′ t
-          done (inl u) = (pred (g .epoch), omega (arith, r), rw (← q′, u) (together y c (pred (g .epoch)) r j g y refl (inr c)))
-          done (inr u) = (pred (g .epoch), omega (arith, r), rw (← q′) (together y c (pred (g .epoch)) r i′ (u .0) (u .1) (u .3 ∙ q ∙ sym q′) (inl (u .2))))
+          there : (i′ ≡ j) ⊎ ((p : Held) × In p (streams a i′) × (p .kind ≡ P) × (p .transaction ≡ h .transaction)) → Installed a m i′ (g .transaction)
+          there (inl u) = rw u (installed-by y c (omega arith) y refl (inr c))
+          there (inr (p, v, k′, t′)) = installed-by y c (omega arith) v (t′ ∙ q ∙ sym q′) (inl k′)
