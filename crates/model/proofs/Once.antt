@@ -2,7 +2,7 @@
 use Prim.Native.Nat.{ℕ, zero, suc, _≤_, _<_}
 use mathlib.Core.Path.{_≡_, refl, sym, ap, _∙_}
 use mathlib.Core.Logic.{_⊎_, inl, inr}
-use mathlib.Core.Bool.{Bool, true, false, not, _&&_, _||_}
+use mathlib.Core.Bool.{Bool, true, false, not, _&&_, _||_, and-false}
 use mathlib.Core.List.{List, [], _∷_, List·Memᴰ·head, List·Memᴰ·tail, List·Memᴰ·cases-cons}
 use native.Mathlib.Omega.{arith}
 use native.Mathlib.Decide.{decLe}
@@ -59,15 +59,9 @@ settled : {n i t : ℕ} {L : ℕ → List Held} {v : Verdict} → Settles n L i 
 settled (by-end q e y l u k) s = no-way (cc)
 settled (by-flag q) s = no-way (cc)
 
-none : (b d : Bool) → (b && false || d && false) ≡ false
-none true true = refl
-none true false = refl
-none false true = refl
-none false false = refl
-
 neither : {X : Type 0} (b d : Bool) (w : Verdict) → ((w ≡ free) × X) ⊎ (w ≡ stay) → (b && installs w || d && flags w) ≡ false
-neither b d w (inl (q, r)) = rw q (none b d)
-neither b d w (inr q) = rw q (none b d)
+neither b d w (inl (q, r)) = rw (q, and-false b, and-false d)
+neither b d w (inr q) = rw (q, and-false b, and-false d)
 
 module _ (a : Account) (z : a .closed ≡ 0) (K : Kept (streams a)) (O : Ordered (streams a)) where
   module _ {j : ℕ} {g : Held} (x : In g (streams a j)) (c : g .kind ≡ CC) where

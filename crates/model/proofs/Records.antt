@@ -2,7 +2,7 @@
 use Prim.Native.Nat.{ℕ, zero, suc, _≤_, _<_}
 use mathlib.Core.Path.{_≡_, refl, sym, ap, _∙_, fun-ext}
 use mathlib.Core.Logic.{_⊎_, inl, inr, _≢_}
-use mathlib.Core.Bool.{Bool, true, false, not, _&&_, _||_}
+use mathlib.Core.Bool.{Bool, true, false, not, _&&_, _||_, and-false, or-true}
 use mathlib.Core.List.{List, [], _∷_, _++_, map, List·Memᴰ, List·Memᴰ·head, List·Memᴰ·tail, List·Memᴰ·append-cases, List·Memᴰ·cases-cons, List·Memᴰ·not-nil, Memᴰ·append-left, Memᴰ·append-right}
 use native.Mathlib.Omega.{arith}
 use native.Mathlib.Decide.{decLe, decLt, ℕ-discrete}
@@ -43,10 +43,6 @@ unfolding done
 installed-done a i zero t x = absurd (omega (arith, x .1))
 installed-done a i (suc m) t x = go x (decLt (x .0) m) (installed-done a i m t)
   where
-    or-true : (b : Bool) → (b || true) ≡ true
-    or-true true = refl
-    or-true false = refl
-
     go : (x : Installed a (suc m) i t) → Dec (x .0 < m) → (Installed a m i t → done a i m t ≡ true) → (done a i m t || any (λ u. eqb t u) (installed (closes m a) i)) ≡ true
     go (k, l, e) (yes b) ih = rw (ih (k, b, e))
     go (k, l, e) (no b) ih =
@@ -179,11 +175,7 @@ module _ (a : Account) (z : a .closed ≡ 0) (K : Kept (streams a)) (O : Ordered
         let u = O .after-p (in-at y .1) p in
         let w : any (unflaggedP (g .transaction)) (upto n (streams a i)) ≡ true =
             upto-some (unflaggedP (g .transaction)) n (at-in (u .3)) (omega (arith, K .intime (at-in (u .3)) x (u .4) c (u .5 ∙ t))) (and (to-is (u .1) (u .4) (u .5 ∙ t)) (ap not (K .fresh (at-in (u .3))))) in
-        rw (no-abort (streams a) K x c n i, upto-some (is CP (g .transaction)) n y l (to-is e p t), w) (go (any (is CC (g .transaction)) (upto n (streams a i))))
-      where
-        go : (b : Bool) → (if b || true then install else if true && any (flaggedP (g .transaction)) (upto n (streams a i)) then free else if any (λ h. unflaggedP (g .transaction) h && committed n (streams a) (coordinator h) (g .transaction)) (upto n (streams a i)) then flag else stay) ≡ install
-        go true = refl
-        go false = refl
+        rw (no-abort (streams a) K x c n i, upto-some (is CP (g .transaction)) n y l (to-is e p t), w, or-true (any (is CC (g .transaction)) (upto n (streams a i))))
 
     -- of any and one that is flagged
     clear-flag : (x u : ℕ) → DecidedIn (streams a) (suc m) x → DecidedIn (streams a) (suc m) u → x ≢ u → v u ≡ flag → Clear k (streams a i) x u
@@ -246,11 +238,7 @@ module _ (a : Account) (z : a .closed ≡ 0) (K : Kept (streams a)) (O : Ordered
   -- each record shows the latest write or deletion, in stream order, by an installed transaction
   pub records : (m : ℕ) → closes m a .at i .records k ≡ afterWrites (done a i m) k (streams a i) (a .at i .records k)
   unfolding closes close settle done installed
-  records zero = sym (after-none (λ t. false) k (streams a i) (λ p h x. no-d (writesTo k h)) (a .at i .records k))
-    where
-      no-d : (b : Bool) → (b && false) ≡ false
-      no-d true = refl
-      no-d false = refl
+  records zero = sym (after-none (λ t. false) k (streams a i) (λ p h x. and-false (writesTo k h)) (a .at i .records k))
   records (suc m) =
       ap (apply (installed (closes m a) i) k (es m)) (records m)
       ∙ apply-all k (streams a i) (es m) (a .at i .records k) (done a i m) (installed (closes m a) i) (λ t x. own-writes m t (mine m t x)) clear (clear-pairs m)

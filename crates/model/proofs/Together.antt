@@ -2,7 +2,7 @@
 use Prim.Native.Nat.{ℕ, zero, suc, pred, _≤_, _<_}
 use mathlib.Core.Path.{_≡_, refl, sym, ap, _∙_}
 use mathlib.Core.Logic.{_⊎_, inl, inr}
-use mathlib.Core.Bool.{Bool, true, false, not, _&&_, _||_}
+use mathlib.Core.Bool.{Bool, true, false, not, _&&_, _||_, and-true, and-false, or-true, and-or-distrib-right}
 use mathlib.Core.List.{List, [], _∷_, map}
 use native.Mathlib.Omega.{arith}
 use lib.Dec.{leb, eqb}
@@ -52,13 +52,7 @@ any-map p f (x ∷ xs) = rw (any-map p f xs)
 any-and : {X : Type 0} (p : X → Bool) (b : Bool) (xs : List X) → any (λ x. p x && b) xs ≡ (any p xs && b)
 unfolding any
 any-and p b [] = refl
-any-and p b (x ∷ xs) = rw (any-and p b xs) (go (p x) b (any p xs))
-  where
-    go : (a b c : Bool) → (a && b || c && b) ≡ ((a || c) && b)
-    go true true c = refl
-    go true false true = refl
-    go true false false = refl
-    go false b c = refl
+any-and p b (x ∷ xs) = rw (any-and p b xs) (sym (and-or-distrib-right (p x) (any p xs) b))
 
 -- entries whose kind passes K, of transactions whose verdict passes s
 half : (K : Held → Bool) (s : Verdict → Bool) (v : ℕ → Verdict) (t : ℕ) (es : List Held)
@@ -69,19 +63,9 @@ half K s v t es =
     ∙ any-cong _ _ es (λ h. go h (eqb (h .transaction) t) refl)
     ∙ any-and (λ h. K h && eqb (h .transaction) t) (s (v t)) es
   where
-    swap : (a b : Bool) → (a && b && true) ≡ (a && true && b)
-    swap true true = refl
-    swap true false = refl
-    swap false b = refl
-
-    none : (a b c : Bool) → (a && b && false) ≡ (a && false && c)
-    none true true c = refl
-    none true false c = refl
-    none false b c = refl
-
     go : (h : Held) (b : Bool) → eqb (h .transaction) t ≡ b → (K h && s (v (h .transaction)) && eqb (h .transaction) t) ≡ (K h && eqb (h .transaction) t && s (v t))
-    go h true e = rw (e, ap (λ u. s (v u)) (eqb-true (h .transaction) t e)) (swap (K h) (s (v t)))
-    go h false e = rw e (none (K h) (s (v (h .transaction))) (s (v t)))
+    go h true e = rw (e, ap (λ u. s (v u)) (eqb-true (h .transaction) t e), and-true (K h && s (v t)), and-true (K h))
+    go h false e = rw (e, and-false (K h && s (v (h .transaction))), and-false (K h))
 
 -- h is a CC or CP
 abbrev pub commits : Held → Bool
@@ -163,11 +147,7 @@ module _ (L : ℕ → List Held) (K : Kept L) {j : ℕ} {g : Held} (m : In g (L 
 
   at-p : (i : ℕ) → any (is P (g .transaction)) (upto n (L i)) ≡ true → verdictOf n L i (g .transaction) ≡ flag → lists? n L i (g .transaction) ≡ true
   unfolding lists?
-  at-p i e v = pieces-test _ (g .transaction) (upto n (L i)) ∙ rw (e, v) (go (any (ends (g .transaction)) (upto n (L i))))
-    where
-      go : (b : Bool) → (b && false || true) ≡ true
-      go true = refl
-      go false = refl
+  at-p i e v = pieces-test _ (g .transaction) (upto n (L i)) ∙ rw (e, v) (or-true (any (ends (g .transaction)) (upto n (L i)) && false))
 
   module _ (q : g .epoch ≡ n) (i : ℕ) where
     pub verdict-cc : (h : Held) → In h (L i) → h .kind ≡ CC → h .transaction ≡ g .transaction → verdictOf n L i (g .transaction) ≡ install
