@@ -7,11 +7,11 @@ use Rattle.model.specs.Account.{Fragment, Account}
 use Rattle.model.specs.Taking.{take}
 use Rattle.model.specs.Closing.{settle, close, installed}
 use Rattle.model.specs.declared.Entry.{Entry}
-use Rattle.model.proofs.Runs.{takeList, takeAll, closes, Ready, close-takeAll, same-installed}
+use Rattle.model.proofs.Runs.{takeList, takeAll, closes, Ready, close-takeAll, same-installed, closes-closed}
 
 -- ---- takes one after the other
 
-pub takeList-append : (s : Fragment) (xs ys : List Entry) → takeList s (xs ++ ys) ≡ takeList (takeList s xs) ys
+takeList-append : (s : Fragment) (xs ys : List Entry) → takeList s (xs ++ ys) ≡ takeList (takeList s xs) ys
 unfolding takeList
 takeList-append s [] ys = refl
 takeList-append s (x ∷ xs) ys = takeList-append (take s x) xs ys
@@ -26,11 +26,6 @@ takeList-records s [] = refl
 takeList-records s (e ∷ es) = takeList-records (take s e) es
 
 -- ---- closes change neither the open epochs nor the number of fragments
-
-closes-closed : (m : ℕ) (a : Account) → closes m a .closed ≡ a .closed + m
-unfolding closes close
-closes-closed zero a = omega arith
-closes-closed (suc m) a = omega (arith, closes-closed m a)
 
 closes-fragments : (m : ℕ) (a : Account) → closes m a .fragments ≡ a .fragments
 unfolding closes close

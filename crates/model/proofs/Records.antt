@@ -1,24 +1,24 @@
 -- Each record shows the latest write or deletion, in stream order, by an installed transaction. Assumes nothing.
 use Prim.Native.Nat.{ℕ, zero, suc, _≤_, _<_}
-use mathlib.Core.Path.{_≡_, refl, sym, ap, _∙_, fun-ext}
+use mathlib.Core.Path.{_≡_, refl, sym, ap, _∙_}
 use mathlib.Core.Logic.{_⊎_, inl, inr, _≢_}
 use mathlib.Core.Bool.{Bool, true, false, not, _&&_, _||_, and-false, or-true}
-use mathlib.Core.List.{List, [], _∷_, _++_, map, List·Memᴰ, List·Memᴰ·head, List·Memᴰ·tail, List·Memᴰ·append-cases, List·Memᴰ·cases-cons, List·Memᴰ·not-nil, Memᴰ·append-left, Memᴰ·append-right}
+use mathlib.Core.List.{List, _++_, List·Memᴰ, Memᴰ·append-left, Memᴰ·append-right}
 use native.Mathlib.Omega.{arith}
 use native.Mathlib.Decide.{decLe, decLt, ℕ-discrete}
 use lib.Dec.{leb, eqb}
 use borrow.Author.Tests.{leb-true, le-leb, eqb-true, eq-eqb}
-use Rattle.model.specs.Lists.{if_then_else_, filter, any}
+use Rattle.model.specs.Lists.{any}
 use Rattle.model.specs.Entry.{DELETE, P, CC, CP}
-use Rattle.model.specs.Account.{Held, key, coordinator, Record, Account}
-use Rattle.model.specs.Closing.{upto, is, flaggedP, unflaggedP, Verdict, free, install, flag, stay, verdict, committed, installs, flags, pieces, writesTo, written, afterWrites, apply, settle, close, installed}
-use Rattle.model.specs.Rules.{At, here, there}
+use Rattle.model.specs.Account.{Held, key, Record, Account}
+use Rattle.model.specs.Closing.{upto, is, unflaggedP, Verdict, free, install, flag, stay, verdict, installs, flags, pieces, writesTo, afterWrites, apply, settle, close, installed}
+use Rattle.model.specs.Rules.{At}
 use Rattle.model.proofs.Tests.{no-way, and-l, and-r, and, either, any-in, any-out}
-use Rattle.model.proofs.Runs.{closes}
+use Rattle.model.proofs.Runs.{closes, closes-closed}
 use Rattle.model.proofs.Working.{In, streams, Kept, Ordered, in-at, at-in, one-place}
 use Rattle.model.proofs.Own.{of}
-use Rattle.model.proofs.Survivors.{Same, Thinned, thinned-filter, thinned-two}
-use Rattle.model.proofs.Together.{to-is, upto-some, commits, Commits, commits-is, verdictOf, no-abort, verdict-cc, Decided, DecidedIn, commits-decided, commits-same, Installed, thinned-log, from-log, closed-closes, stays}
+use Rattle.model.proofs.Survivors.{Thinned, thinned-filter, thinned-two}
+use Rattle.model.proofs.Together.{to-is, upto-some, commits, Commits, commits-is, verdictOf, no-abort, verdict-cc, Decided, DecidedIn, commits-decided, commits-same, Installed, thinned-log, from-log, stays}
 use Rattle.model.proofs.Once.{on-log, once}
 use Rattle.model.proofs.WriteOrder.{after-none, after-filter, Pairs, pairs-append, picked, in-picked, picked-in, pairs-picked, Clear, apply-all}
 
@@ -142,7 +142,7 @@ module _ (a : Account) (z : a .closed ≡ 0) (K : Kept (streams a)) (O : Ordered
     v = verdictOf n H i
 
     n-suc : n ≡ suc m
-    n-suc = ap suc (closed-closes a z K m)
+    n-suc = omega (arith, closes-closed m a)
 
     thinned : Thinned es (streams a i)
     unfolding upto

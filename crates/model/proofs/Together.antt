@@ -2,7 +2,7 @@
 use Prim.Native.Nat.{ℕ, zero, suc, pred, _≤_, _<_}
 use mathlib.Core.Path.{_≡_, refl, sym, ap, _∙_}
 use mathlib.Core.Logic.{_⊎_, inl, inr}
-use mathlib.Core.Bool.{Bool, true, false, not, _&&_, _||_, and-true, and-false, or-true, and-or-distrib-right}
+use mathlib.Core.Bool.{Bool, true, false, _&&_, _||_, and-true, and-false, or-true, and-or-distrib-right}
 use mathlib.Core.List.{List, [], _∷_, map}
 use native.Mathlib.Omega.{arith}
 use lib.Dec.{leb, eqb}
@@ -12,7 +12,7 @@ use Rattle.model.specs.Entry.{DELETE, P, CC, CP, A}
 use Rattle.model.specs.Account.{Held, coordinator, Account}
 use Rattle.model.specs.Closing.{upto, is, flaggedP, unflaggedP, Verdict, free, install, flag, stay, verdict, committed, installs, flags, pieces, settle, close, installed}
 use Rattle.model.proofs.Tests.{no-way, and-l, and-r, and, either, any-append, any-filter, any-cong, any-in, any-out, any-none}
-use Rattle.model.proofs.Runs.{closes}
+use Rattle.model.proofs.Runs.{closes, closes-closed}
 use Rattle.model.proofs.Working.{In, streams, Kept, in-at, at-in}
 use Rattle.model.proofs.Survivors.{Same, Thinned, thinned-self, thinned-survivors, thinned-one}
 use Rattle.model.proofs.Own.{of, any-own, two, any-is, of-survivors, same-verdict}
@@ -74,7 +74,7 @@ commits h = eqb (h .kind) CC || eqb (h .kind) CP
 abbrev pub Commits : Held → Type 0
 Commits h = (h .kind ≡ CC) ⊎ (h .kind ≡ CP)
 
-pub to-commits : (h : Held) → Commits h → commits h ≡ true
+to-commits : (h : Held) → Commits h → commits h ≡ true
 to-commits h (inl k) = rw k
 to-commits h (inr k) = rw k
 
@@ -235,11 +235,6 @@ pub from-log : (a : Account) (m : ℕ) {i : ℕ} {h : Held} → In h (streams (c
 from-log a m {i} x = let r = thinned-one (thinned-log a i m) (in-at x .1) in (r .1, at-in (r .2), r .3)
 
 module _ (a : Account) (z : a .closed ≡ 0) (K : Kept (streams a)) where
-  pub closed-closes : (m : ℕ) → closes m a .closed ≡ m
-  unfolding closes close
-  closed-closes zero = z
-  closed-closes (suc m) = ap suc (closed-closes m)
-
   module _ {j : ℕ} {g : Held} (x : In g (streams a j)) (c : g .kind ≡ CC) where
     -- before the close of its CC's epoch the account holds all of it, as it was taken
     pub stays : (m : ℕ) → m < g .epoch → (i : ℕ) → of (g .transaction) (streams (closes m a) i) ≡ of (g .transaction) (streams a i)
@@ -248,7 +243,7 @@ module _ (a : Account) (z : a .closed ≡ 0) (K : Kept (streams a)) where
     stays (suc m) b i =
         let n = suc (closes m a .closed) in
         let q = stays m (omega arith) in
-        of-survivors n (g .transaction) _ (same-verdict n (streams (closes m a)) (streams a) (g .transaction) q i ∙ before (streams a) K x c n (omega (arith, closed-closes m)) i) (streams (closes m a) i)
+        of-survivors n (g .transaction) _ (same-verdict n (streams (closes m a)) (streams a) (g .transaction) q i ∙ before (streams a) K x c n (omega (arith, closes-closed m a)) i) (streams (closes m a) i)
         ∙ q i
 
     -- and that close installs it wherever it has P or CC
@@ -258,7 +253,7 @@ module _ (a : Account) (z : a .closed ≡ 0) (K : Kept (streams a)) where
     together m e i h y t k = lists-own (suc (closes m a .closed)) (streams (closes m a)) (streams a) (g .transaction) (stays m (omega arith)) i ∙ go k
       where
         q : g .epoch ≡ suc (closes m a .closed)
-        q = rw (closed-closes m) e
+        q = omega (arith, closes-closed m a)
 
         go : (h .kind ≡ P) ⊎ (h .kind ≡ CC) → lists? (suc (closes m a .closed)) (streams a) i (g .transaction) ≡ true
         go (inl p) = now-p (streams a) K x c _ q i h y p t
@@ -273,7 +268,7 @@ module _ (a : Account) (z : a .closed ≡ 0) (K : Kept (streams a)) where
   held-ends m t i h x l q k =
       let s = from-log a m {i = i} x in
       let r = commits-decided K (s .1) (commits-same (s .2) k) in
-      (r .0, r .1, r .2, r .3, r .4 ∙ sym (s .2 .transaction) ∙ q, omega (arith, r .5, closed-closes m, s .2 .epoch))
+      (r .0, r .1, r .2, r .3, r .4 ∙ sym (s .2 .transaction) ∙ q, omega (arith, r .5, closes-closed m a, s .2 .epoch))
 
   -- what a close installs has been decided by then
   pub only : (m i t : ℕ) → any (λ u. eqb u t) (installed (closes m a) i) ≡ true → Decided (streams a) (suc m) t
