@@ -236,7 +236,7 @@ module _ (a : Account) (z : a .closed ≡ 0) (K : Kept (streams a)) (O : Ordered
         let w = v′ m l (spent m l) i in
         pieces-test w (g .transaction) es ∙ neither (any (ends (g .transaction)) es) (any (is P (g .transaction)) es) (w (g .transaction)) (spent-verdict m l (spent m l) i)
 
-  -- a close installs a transaction's pieces exactly where its CC stands in that epoch
+  -- what a close installs has its CC in the epoch that is closed
   pub once : (m i t : ℕ) → any (λ u. eqb u t) (installed (closes m a) i) ≡ true → DecidedIn (streams a) (suc m) t
   once m i t e = go (only a z K m i t e)
     where

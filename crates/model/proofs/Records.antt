@@ -70,18 +70,12 @@ module _ (a : Account) (z : a .closed ≡ 0) (K : Kept (streams a)) (O : Ordered
   write-epoch : {j q : ℕ} {f g : Held} → At f (streams a i) q → f .kind ≤ DELETE → In g (streams a j) → g .kind ≡ CC → f .transaction ≡ g .transaction → f .epoch ≤ g .epoch
   write-epoch {j} {q} {f} {g} x w y c t = go (O .then-p x y w c t)
     where
-      here-too : In g (streams a i) → f .epoch ≤ g .epoch
-      here-too y′ = place (in-at y′)
-        where
-          place : (p : ℕ) × At g (streams a i) p → f .epoch ≤ g .epoch
-          place (p, b) = cases (decLe q p)
-            where
-              cases : Dec (q ≤ p) → f .epoch ≤ g .epoch
-              cases (yes l) = O .rising x b l
-              cases (no l) = absurd (O .last b x (omega arith) (omega arith) (sym t))
+      here-too : {p : ℕ} → At g (streams a i) p → Dec (q ≤ p) → f .epoch ≤ g .epoch
+      here-too b (yes l) = O .rising x b l
+      here-too b (no l) = absurd (O .last b x (omega arith) (omega arith) (sym t))
 
       go : (i ≡ j) ⊎ ((p : ℕ) × (e : Held) × (q < p) × At e (streams a i) p × (e .kind ≡ P) × (e .transaction ≡ f .transaction)) → f .epoch ≤ g .epoch
-      go (inl e) = here-too (rw e y)
+      go (inl e) = let r : (p : ℕ) × At g (streams a i) p = rw e (in-at y) in here-too (r .1) (decLe q (r .0))
       go (inr (p, e, l, b, ke, te)) = omega (arith, O .rising x b (omega arith), K .intime (at-in b) y ke c (te ∙ t))
 
   -- between a write of k by u and another's stands the CC or CP of u
@@ -108,7 +102,7 @@ module _ (a : Account) (z : a .closed ≡ 0) (K : Kept (streams a)) (O : Ordered
           let d = commits-decided K (at-in v) ks in
           (r, e, l₂, v, u ∙ t, ks, omega (arith, d .5, K .one (d .2) y (d .3) c (d .4 ∙ u ∙ t)), O .rising v b (omega arith))
 
-  -- one that was installed by an earlier close
+  -- one that was installed by an earlier close, and one of a later epoch
   clear-earlier : {j j′ : ℕ} {x u : Held} → In x (streams a j) → x .kind ≡ CC → In u (streams a j′) → u .kind ≡ CC → x .epoch < u .epoch → Clear k (streams a i) (x .transaction) (u .transaction)
   clear-earlier {x = x} {u = u} yx cx yu cu l p q h f lt ah af wh th wf tf =
       let r = between yu cu lt ah af wh th wf (λ e. omega (arith, K .one yx yu cx cu (sym tf ∙ e))) in
@@ -167,6 +161,7 @@ module _ (a : Account) (z : a .closed ≡ 0) (K : Kept (streams a)) (O : Ordered
             let d : h .kind ≤ DELETE = leb-true (h .kind) DELETE (and-l _ _ (and-l (writesTo k h) _ w)) in
             le-leb (h .epoch) n (omega (arith, n-suc, r .2 .epoch, write-epoch (in-at (r .1) .1) (omega (arith, r .2 .kind)) x c (sym (r .2 .transaction) ∙ eqb-true (h .transaction) t (and-r (writesTo k h) _ w) ∙ sym q)))
 
+    -- with CC or CP in an epoch up to the one that is closed, it is installed
     verdict-end : {j : ℕ} {g e : Held} → In g (streams a j) → g .kind ≡ CC → g .epoch ≡ n → In e (streams a i) → e .epoch ≤ n → e .transaction ≡ g .transaction → Commits e
         → verdictOf n (streams a) i (g .transaction) ≡ install
     unfolding verdict
@@ -177,7 +172,7 @@ module _ (a : Account) (z : a .closed ≡ 0) (K : Kept (streams a)) (O : Ordered
             upto-some (unflaggedP (g .transaction)) n (at-in (u .3)) (omega (arith, K .intime (at-in (u .3)) x (u .4) c (u .5 ∙ t))) (and (to-is (u .1) (u .4) (u .5 ∙ t)) (ap not (K .fresh (at-in (u .3))))) in
         rw (no-abort (streams a) K x c n i, upto-some (is CP (g .transaction)) n y l (to-is e p t), w, or-true (any (is CC (g .transaction)) (upto n (streams a i))))
 
-    -- of any and one that is flagged
+    -- any, and one that is flagged by the same close
     clear-flag : (x u : ℕ) → DecidedIn (streams a) (suc m) x → DecidedIn (streams a) (suc m) u → x ≢ u → v u ≡ flag → Clear k (streams a i) x u
     clear-flag x u (jx, gx, yx, cx, qx, ex) (ju, gu, yu, cu, qu, eu) d fl p q h w lt ah aw wh th ww tw =
         let r = between yu cu lt ah aw wh (th ∙ sym qu) ww (λ s. d (sym tw ∙ s ∙ qu)) in
