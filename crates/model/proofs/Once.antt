@@ -2,7 +2,7 @@
 use Prim.Native.Nat.{ℕ, zero, suc, _≤_, _<_}
 use mathlib.Core.Path.{_≡_, refl, sym, ap, _∙_}
 use mathlib.Core.Logic.{_⊎_, inl, inr}
-use mathlib.Core.Bool.{Bool, true, false, not, _&&_, _||_}
+use mathlib.Core.Bool.{Bool, true, false, not, _&&_, _||_, and-false}
 use mathlib.Core.List.{List, [], _∷_, List·Memᴰ·head, List·Memᴰ·tail, List·Memᴰ·cases-cons}
 use native.Mathlib.Omega.{arith}
 use native.Mathlib.Decide.{decLe}
@@ -11,14 +11,14 @@ use borrow.Author.Tests.{eq-eqb}
 use Rattle.model.specs.Lists.{if_then_else_, filter, any}
 use Rattle.model.specs.Entry.{P, CC, CP, A}
 use Rattle.model.specs.Account.{Held, coordinator, Account}
-use Rattle.model.specs.Closing.{upto, is, flaggedP, unflaggedP, Verdict, free, install, flag, stay, verdict, committed, installs, flags, withFlag, survivors, settle, close, installed}
+use Rattle.model.specs.Closing.{upto, is, flaggedP, unflaggedP, Verdict, free, install, stay, verdict, committed, installs, flags, withFlag, survivors, settle, close, installed}
 use Rattle.model.specs.Rules.{At}
 use Rattle.model.proofs.Tests.{no-way, and-l, and-r, and}
-use Rattle.model.proofs.Runs.{closes}
+use Rattle.model.proofs.Runs.{closes, closes-closed}
 use Rattle.model.proofs.Working.{In, streams, Kept, Ordered, in-at, at-in, one-end}
 use Rattle.model.proofs.Own.{of, same-verdict}
 use Rattle.model.proofs.Survivors.{Same, Survived, as-was, flags-p, survived, keeps-stay, keeps-flag}
-use Rattle.model.proofs.Together.{is-kind, is-transaction, to-is, upto-none, upto-some, upto-out, ends, pieces-test, verdictOf, Settles, by-end, by-flag, verdict-cc, verdict-p, Decided, DecidedIn, from-log, closed-closes, stays, only}
+use Rattle.model.proofs.Together.{is-kind, is-transaction, to-is, upto-none, upto-some, upto-out, ends, pieces-test, verdictOf, Settles, by-end, by-flag, verdict-cc, verdict-p, Decided, DecidedIn, from-log, stays, only}
 
 -- ---- the entries of t, here and there
 
@@ -59,15 +59,9 @@ settled : {n i t : ℕ} {L : ℕ → List Held} {v : Verdict} → Settles n L i 
 settled (by-end q e y l u k) s = no-way (cc)
 settled (by-flag q) s = no-way (cc)
 
-none : (b d : Bool) → (b && false || d && false) ≡ false
-none true true = refl
-none true false = refl
-none false true = refl
-none false false = refl
-
 neither : {X : Type 0} (b d : Bool) (w : Verdict) → ((w ≡ free) × X) ⊎ (w ≡ stay) → (b && installs w || d && flags w) ≡ false
-neither b d w (inl (q, r)) = rw q (none b d)
-neither b d w (inr q) = rw q (none b d)
+neither b d w (inl (q, r)) = rw (q, and-false b, and-false d)
+neither b d w (inr q) = rw (q, and-false b, and-false d)
 
 module _ (a : Account) (z : a .closed ≡ 0) (K : Kept (streams a)) (O : Ordered (streams a)) where
   module _ {j : ℕ} {g : Held} (x : In g (streams a j)) (c : g .kind ≡ CC) where
@@ -83,7 +77,7 @@ module _ (a : Account) (z : a .closed ≡ 0) (K : Kept (streams a)) (O : Ordered
       v = verdictOf n H i
 
       n-is : g .epoch ≡ n
-      n-is = rw (closed-closes a z K m) e
+      n-is = omega (arith, closes-closed m a)
 
       pub on-log : v (g .transaction) ≡ verdictOf n (streams a) i (g .transaction)
       on-log = same-verdict n H (streams a) (g .transaction) (stays a z K x c m (omega arith)) i
@@ -194,7 +188,7 @@ module _ (a : Account) (z : a .closed ≡ 0) (K : Kept (streams a)) (O : Ordered
           go true q =
               let r = upto-out (is CP t) n′ (H′ i) q in
               let u = S i .pair (r .1) (is-transaction CP t (r .0) (r .3)) (is-kind CP t (r .0) (r .3)) in
-              let w : any (flaggedP t) (upto n′ (H′ i)) ≡ true = upto-some _ n′ (u .1) (omega (arith, u .5, closed-closes a z K m)) (and (to-is (u .0) (u .2) (u .3)) (u .4)) in
+              let w : any (flaggedP t) (upto n′ (H′ i)) ≡ true = upto-some _ n′ (u .1) (omega (arith, u .5, closes-closed m a)) (and (to-is (u .0) (u .2) (u .3)) (u .4)) in
               inl (rw (eA, eC, q, eU, w), (r .0, r .1, r .2, is-transaction CP t (r .0) (r .3), is-kind CP t (r .0) (r .3)))
           go false q = inr (rw (eA, eC, q, eP))
 
@@ -242,7 +236,7 @@ module _ (a : Account) (z : a .closed ≡ 0) (K : Kept (streams a)) (O : Ordered
         let w = v′ m l (spent m l) i in
         pieces-test w (g .transaction) es ∙ neither (any (ends (g .transaction)) es) (any (is P (g .transaction)) es) (w (g .transaction)) (spent-verdict m l (spent m l) i)
 
-  -- a close installs a transaction's pieces exactly where its CC stands in that epoch
+  -- what a close installs has its CC in the epoch that is closed
   pub once : (m i t : ℕ) → any (λ u. eqb u t) (installed (closes m a) i) ≡ true → DecidedIn (streams a) (suc m) t
   once m i t e = go (only a z K m i t e)
     where

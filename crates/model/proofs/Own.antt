@@ -1,7 +1,7 @@
 -- What becomes of a transaction depends on its own entries alone. Assumes nothing.
 use Prim.Native.Nat.{ℕ}
 use mathlib.Core.Path.{_≡_, refl, sym, ap, _∙_}
-use mathlib.Core.Bool.{Bool, true, false, not, _&&_, and-true}
+use mathlib.Core.Bool.{Bool, true, false, not, _&&_, and-true, and-self, and-comm, and-assoc}
 use mathlib.Core.List.{List, [], _∷_, _++_}
 use lib.Dec.{leb, eqb}
 use borrow.Author.Tests.{eqb-true}
@@ -26,15 +26,10 @@ any-own p t n hs q =
     ∙ sym (any-filter p (λ h. leb (h .epoch) n) (of t hs) ∙ any-filter (λ h. leb (h .epoch) n && p h) (λ h. eqb (h .transaction) t) hs)
   where
     tests : (l b e : Bool) → b ≡ (b && e) → (l && b) ≡ (e && (l && b))
-    tests l true e q = rw (← q)
-    tests l false true q = refl
-    tests true false false q = refl
-    tests false false false q = refl
+    tests l b e q = rw (and-comm e (l && b), and-assoc, ← q)
 
 pub two : (a b : Bool) → (a && b) ≡ (a && b && b)
-two true true = refl
-two true false = refl
-two false b = refl
+two a b = rw (and-assoc, and-self)
 
 more : (a c e : Bool) → a ≡ (a && e) → (a && c) ≡ (a && c && e)
 more true c e q = rw (← q) (sym (and-true c))

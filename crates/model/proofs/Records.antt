@@ -1,24 +1,24 @@
 -- Each record shows the latest write or deletion, in stream order, by an installed transaction. Assumes nothing.
 use Prim.Native.Nat.{ℕ, zero, suc, _≤_, _<_}
-use mathlib.Core.Path.{_≡_, refl, sym, ap, _∙_, fun-ext}
+use mathlib.Core.Path.{_≡_, refl, sym, ap, _∙_}
 use mathlib.Core.Logic.{_⊎_, inl, inr, _≢_}
-use mathlib.Core.Bool.{Bool, true, false, not, _&&_, _||_}
-use mathlib.Core.List.{List, [], _∷_, _++_, map, List·Memᴰ, List·Memᴰ·head, List·Memᴰ·tail, List·Memᴰ·append-cases, List·Memᴰ·cases-cons, List·Memᴰ·not-nil, Memᴰ·append-left, Memᴰ·append-right}
+use mathlib.Core.Bool.{Bool, true, false, not, _&&_, _||_, and-false, or-true}
+use mathlib.Core.List.{List, _++_, List·Memᴰ, Memᴰ·append-left, Memᴰ·append-right}
 use native.Mathlib.Omega.{arith}
 use native.Mathlib.Decide.{decLe, decLt, ℕ-discrete}
 use lib.Dec.{leb, eqb}
 use borrow.Author.Tests.{leb-true, le-leb, eqb-true, eq-eqb}
-use Rattle.model.specs.Lists.{if_then_else_, filter, any}
+use Rattle.model.specs.Lists.{any}
 use Rattle.model.specs.Entry.{DELETE, P, CC, CP}
-use Rattle.model.specs.Account.{Held, key, coordinator, Record, Account}
-use Rattle.model.specs.Closing.{upto, is, flaggedP, unflaggedP, Verdict, free, install, flag, stay, verdict, committed, installs, flags, pieces, writesTo, written, afterWrites, apply, settle, close, installed}
-use Rattle.model.specs.Rules.{At, here, there}
+use Rattle.model.specs.Account.{Held, key, Record, Account}
+use Rattle.model.specs.Closing.{upto, is, unflaggedP, Verdict, free, install, flag, stay, verdict, installs, flags, pieces, writesTo, afterWrites, apply, settle, close, installed}
+use Rattle.model.specs.Rules.{At}
 use Rattle.model.proofs.Tests.{no-way, and-l, and-r, and, either, any-in, any-out}
-use Rattle.model.proofs.Runs.{closes}
+use Rattle.model.proofs.Runs.{closes, closes-closed}
 use Rattle.model.proofs.Working.{In, streams, Kept, Ordered, in-at, at-in, one-place}
 use Rattle.model.proofs.Own.{of}
-use Rattle.model.proofs.Survivors.{Same, Thinned, thinned-filter, thinned-two}
-use Rattle.model.proofs.Together.{to-is, upto-some, commits, Commits, commits-is, verdictOf, no-abort, verdict-cc, Decided, DecidedIn, commits-decided, commits-same, Installed, thinned-log, from-log, closed-closes, stays}
+use Rattle.model.proofs.Survivors.{Thinned, thinned-filter, thinned-two}
+use Rattle.model.proofs.Together.{to-is, upto-some, commits, Commits, commits-is, verdictOf, no-abort, verdict-cc, Decided, DecidedIn, commits-decided, commits-same, Installed, thinned-log, from-log, stays}
 use Rattle.model.proofs.Once.{on-log, once}
 use Rattle.model.proofs.WriteOrder.{after-none, after-filter, Pairs, pairs-append, picked, in-picked, picked-in, pairs-picked, Clear, apply-all}
 
@@ -43,10 +43,6 @@ unfolding done
 installed-done a i zero t x = absurd (omega (arith, x .1))
 installed-done a i (suc m) t x = go x (decLt (x .0) m) (installed-done a i m t)
   where
-    or-true : (b : Bool) → (b || true) ≡ true
-    or-true true = refl
-    or-true false = refl
-
     go : (x : Installed a (suc m) i t) → Dec (x .0 < m) → (Installed a m i t → done a i m t ≡ true) → (done a i m t || any (λ u. eqb t u) (installed (closes m a) i)) ≡ true
     go (k, l, e) (yes b) ih = rw (ih (k, b, e))
     go (k, l, e) (no b) ih =
@@ -74,18 +70,12 @@ module _ (a : Account) (z : a .closed ≡ 0) (K : Kept (streams a)) (O : Ordered
   write-epoch : {j q : ℕ} {f g : Held} → At f (streams a i) q → f .kind ≤ DELETE → In g (streams a j) → g .kind ≡ CC → f .transaction ≡ g .transaction → f .epoch ≤ g .epoch
   write-epoch {j} {q} {f} {g} x w y c t = go (O .then-p x y w c t)
     where
-      here-too : In g (streams a i) → f .epoch ≤ g .epoch
-      here-too y′ = place (in-at y′)
-        where
-          place : (p : ℕ) × At g (streams a i) p → f .epoch ≤ g .epoch
-          place (p, b) = cases (decLe q p)
-            where
-              cases : Dec (q ≤ p) → f .epoch ≤ g .epoch
-              cases (yes l) = O .rising x b l
-              cases (no l) = absurd (O .last b x (omega arith) (omega arith) (sym t))
+      here-too : {p : ℕ} → At g (streams a i) p → Dec (q ≤ p) → f .epoch ≤ g .epoch
+      here-too b (yes l) = O .rising x b l
+      here-too b (no l) = absurd (O .last b x (omega arith) (omega arith) (sym t))
 
       go : (i ≡ j) ⊎ ((p : ℕ) × (e : Held) × (q < p) × At e (streams a i) p × (e .kind ≡ P) × (e .transaction ≡ f .transaction)) → f .epoch ≤ g .epoch
-      go (inl e) = here-too (rw e y)
+      go (inl e) = let r : (p : ℕ) × At g (streams a i) p = rw e (in-at y) in here-too (r .1) (decLe q (r .0))
       go (inr (p, e, l, b, ke, te)) = omega (arith, O .rising x b (omega arith), K .intime (at-in b) y ke c (te ∙ t))
 
   -- between a write of k by u and another's stands the CC or CP of u
@@ -112,7 +102,7 @@ module _ (a : Account) (z : a .closed ≡ 0) (K : Kept (streams a)) (O : Ordered
           let d = commits-decided K (at-in v) ks in
           (r, e, l₂, v, u ∙ t, ks, omega (arith, d .5, K .one (d .2) y (d .3) c (d .4 ∙ u ∙ t)), O .rising v b (omega arith))
 
-  -- one that was installed by an earlier close
+  -- one that was installed by an earlier close, and one of a later epoch
   clear-earlier : {j j′ : ℕ} {x u : Held} → In x (streams a j) → x .kind ≡ CC → In u (streams a j′) → u .kind ≡ CC → x .epoch < u .epoch → Clear k (streams a i) (x .transaction) (u .transaction)
   clear-earlier {x = x} {u = u} yx cx yu cu l p q h f lt ah af wh th wf tf =
       let r = between yu cu lt ah af wh th wf (λ e. omega (arith, K .one yx yu cx cu (sym tf ∙ e))) in
@@ -146,7 +136,7 @@ module _ (a : Account) (z : a .closed ≡ 0) (K : Kept (streams a)) (O : Ordered
     v = verdictOf n H i
 
     n-suc : n ≡ suc m
-    n-suc = ap suc (closed-closes a z K m)
+    n-suc = omega (arith, closes-closed m a)
 
     thinned : Thinned es (streams a i)
     unfolding upto
@@ -171,6 +161,7 @@ module _ (a : Account) (z : a .closed ≡ 0) (K : Kept (streams a)) (O : Ordered
             let d : h .kind ≤ DELETE = leb-true (h .kind) DELETE (and-l _ _ (and-l (writesTo k h) _ w)) in
             le-leb (h .epoch) n (omega (arith, n-suc, r .2 .epoch, write-epoch (in-at (r .1) .1) (omega (arith, r .2 .kind)) x c (sym (r .2 .transaction) ∙ eqb-true (h .transaction) t (and-r (writesTo k h) _ w) ∙ sym q)))
 
+    -- with CC or CP in an epoch up to the one that is closed, it is installed
     verdict-end : {j : ℕ} {g e : Held} → In g (streams a j) → g .kind ≡ CC → g .epoch ≡ n → In e (streams a i) → e .epoch ≤ n → e .transaction ≡ g .transaction → Commits e
         → verdictOf n (streams a) i (g .transaction) ≡ install
     unfolding verdict
@@ -179,13 +170,9 @@ module _ (a : Account) (z : a .closed ≡ 0) (K : Kept (streams a)) (O : Ordered
         let u = O .after-p (in-at y .1) p in
         let w : any (unflaggedP (g .transaction)) (upto n (streams a i)) ≡ true =
             upto-some (unflaggedP (g .transaction)) n (at-in (u .3)) (omega (arith, K .intime (at-in (u .3)) x (u .4) c (u .5 ∙ t))) (and (to-is (u .1) (u .4) (u .5 ∙ t)) (ap not (K .fresh (at-in (u .3))))) in
-        rw (no-abort (streams a) K x c n i, upto-some (is CP (g .transaction)) n y l (to-is e p t), w) (go (any (is CC (g .transaction)) (upto n (streams a i))))
-      where
-        go : (b : Bool) → (if b || true then install else if true && any (flaggedP (g .transaction)) (upto n (streams a i)) then free else if any (λ h. unflaggedP (g .transaction) h && committed n (streams a) (coordinator h) (g .transaction)) (upto n (streams a i)) then flag else stay) ≡ install
-        go true = refl
-        go false = refl
+        rw (no-abort (streams a) K x c n i, upto-some (is CP (g .transaction)) n y l (to-is e p t), w, or-true (any (is CC (g .transaction)) (upto n (streams a i))))
 
-    -- of any and one that is flagged
+    -- any, and one that is flagged by the same close
     clear-flag : (x u : ℕ) → DecidedIn (streams a) (suc m) x → DecidedIn (streams a) (suc m) u → x ≢ u → v u ≡ flag → Clear k (streams a i) x u
     clear-flag x u (jx, gx, yx, cx, qx, ex) (ju, gu, yu, cu, qu, eu) d fl p q h w lt ah aw wh th ww tw =
         let r = between yu cu lt ah aw wh (th ∙ sym qu) ww (λ s. d (sym tw ∙ s ∙ qu)) in
@@ -246,11 +233,7 @@ module _ (a : Account) (z : a .closed ≡ 0) (K : Kept (streams a)) (O : Ordered
   -- each record shows the latest write or deletion, in stream order, by an installed transaction
   pub records : (m : ℕ) → closes m a .at i .records k ≡ afterWrites (done a i m) k (streams a i) (a .at i .records k)
   unfolding closes close settle done installed
-  records zero = sym (after-none (λ t. false) k (streams a i) (λ p h x. no-d (writesTo k h)) (a .at i .records k))
-    where
-      no-d : (b : Bool) → (b && false) ≡ false
-      no-d true = refl
-      no-d false = refl
+  records zero = sym (after-none (λ t. false) k (streams a i) (λ p h x. and-false (writesTo k h)) (a .at i .records k))
   records (suc m) =
       ap (apply (installed (closes m a) i) k (es m)) (records m)
       ∙ apply-all k (streams a i) (es m) (a .at i .records k) (done a i m) (installed (closes m a) i) (λ t x. own-writes m t (mine m t x)) clear (clear-pairs m)

@@ -1,11 +1,11 @@
 -- Any allowed order of entries and closes ends where all the entries and then the closes end, and its closes give the same lists. Assumes nothing.
-use Prim.Native.Nat.{ℕ, zero, suc, _≤_, _<_}
+use Prim.Native.Nat.{ℕ, zero, suc, _+_, _≤_, _<_}
 use mathlib.Core.Path.{_≡_, refl, sym, ap, _∙_, fun-ext}
 use mathlib.Core.Bool.{Bool, true, false}
 use mathlib.Core.List.{List, [], _∷_, _++_, map, append-assoc}
 use native.Mathlib.Omega.{arith}
 use native.Mathlib.Decide.{decLt}
-use lib.Dec.{leb, eqb}
+use lib.Dec.{eqb}
 use borrow.Author.Tests.{lt-leb, ne-eqb}
 use Rattle.model.specs.Lists.{if_then_else_, filter, any, upward}
 use Rattle.model.specs.Entry.{CC, isMark}
@@ -49,7 +49,7 @@ unfolding survivors
 survivors-later n v [] h l = rw lt-leb
 survivors-later n v (x ∷ hs) h l = rw (survivors-later n v hs h l, append-assoc)
 
-pub settle-take : (n : ℕ) (d : ℕ → ℕ → Bool) (s : Fragment) (e : Entry) → n < s .counters .epoch → settle n d (take s e) ≡ take (settle n d s) e
+settle-take : (n : ℕ) (d : ℕ → ℕ → Bool) (s : Fragment) (e : Entry) → n < s .counters .epoch → settle n d (take s e) ≡ take (settle n d s) e
 unfolding settle take hold
 settle-take n d s e l = go (isMark e) refl
   where
@@ -66,7 +66,7 @@ take-epoch s e = go (isMark e)
     go true = omega arith
     go false = omega arith
 
-pub upto-take : (n : ℕ) (s : Fragment) (e : Entry) → n < s .counters .epoch → upto n (take s e .held) ≡ upto n (s .held)
+upto-take : (n : ℕ) (s : Fragment) (e : Entry) → n < s .counters .epoch → upto n (take s e .held) ≡ upto n (s .held)
 unfolding take hold
 upto-take n s e l = go (isMark e)
   where
@@ -117,7 +117,7 @@ module _ (a : Account) (es : ℕ → List Entry) (r : Ready a) (o : (j : ℕ) �
   unfolding installed takeAll
   same-installed i = rw (same-committed, same-upto i)
 
-  pub listed-takeAll : listed (takeAll es a) ≡ listed a
+  listed-takeAll : listed (takeAll es a) ≡ listed a
   unfolding listed takeAll
   listed-takeAll = ap (λ p. upward (a .fragments) 0 (λ i. map (λ t. record { fragment = i; transaction = t }) (p i))) (fun-ext same-installed)
 
@@ -137,6 +137,11 @@ takeAll-log e ss a = ap (λ f. record { number = a .number; fragments = a .fragm
     go : (j : ℕ) (b : Bool) → takeList (if b then take (a .at j) e else a .at j) (log ss j) ≡ takeList (a .at j) (if b then e ∷ log ss j else log ss j)
     go j true = refl
     go j false = refl
+
+pub closes-closed : (m : ℕ) (a : Account) → closes m a .closed ≡ a .closed + m
+unfolding closes close
+closes-closed zero a = omega arith
+closes-closed (suc m) a = omega (arith, closes-closed m a)
 
 closes-front : (m : ℕ) (a : Account) → closes m (close a) ≡ close (closes m a)
 unfolding closes

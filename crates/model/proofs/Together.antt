@@ -2,7 +2,7 @@
 use Prim.Native.Nat.{ℕ, zero, suc, pred, _≤_, _<_}
 use mathlib.Core.Path.{_≡_, refl, sym, ap, _∙_}
 use mathlib.Core.Logic.{_⊎_, inl, inr}
-use mathlib.Core.Bool.{Bool, true, false, not, _&&_, _||_}
+use mathlib.Core.Bool.{Bool, true, false, _&&_, _||_, and-true, and-false, or-true, and-or-distrib-right}
 use mathlib.Core.List.{List, [], _∷_, map}
 use native.Mathlib.Omega.{arith}
 use lib.Dec.{leb, eqb}
@@ -12,7 +12,7 @@ use Rattle.model.specs.Entry.{DELETE, P, CC, CP, A}
 use Rattle.model.specs.Account.{Held, coordinator, Account}
 use Rattle.model.specs.Closing.{upto, is, flaggedP, unflaggedP, Verdict, free, install, flag, stay, verdict, committed, installs, flags, pieces, settle, close, installed}
 use Rattle.model.proofs.Tests.{no-way, and-l, and-r, and, either, any-append, any-filter, any-cong, any-in, any-out, any-none}
-use Rattle.model.proofs.Runs.{closes}
+use Rattle.model.proofs.Runs.{closes, closes-closed}
 use Rattle.model.proofs.Working.{In, streams, Kept, in-at, at-in}
 use Rattle.model.proofs.Survivors.{Same, Thinned, thinned-self, thinned-survivors, thinned-one}
 use Rattle.model.proofs.Own.{of, any-own, two, any-is, of-survivors, same-verdict}
@@ -52,13 +52,7 @@ any-map p f (x ∷ xs) = rw (any-map p f xs)
 any-and : {X : Type 0} (p : X → Bool) (b : Bool) (xs : List X) → any (λ x. p x && b) xs ≡ (any p xs && b)
 unfolding any
 any-and p b [] = refl
-any-and p b (x ∷ xs) = rw (any-and p b xs) (go (p x) b (any p xs))
-  where
-    go : (a b c : Bool) → (a && b || c && b) ≡ ((a || c) && b)
-    go true true c = refl
-    go true false true = refl
-    go true false false = refl
-    go false b c = refl
+any-and p b (x ∷ xs) = rw (any-and p b xs) (sym (and-or-distrib-right (p x) (any p xs) b))
 
 -- entries whose kind passes K, of transactions whose verdict passes s
 half : (K : Held → Bool) (s : Verdict → Bool) (v : ℕ → Verdict) (t : ℕ) (es : List Held)
@@ -69,19 +63,9 @@ half K s v t es =
     ∙ any-cong _ _ es (λ h. go h (eqb (h .transaction) t) refl)
     ∙ any-and (λ h. K h && eqb (h .transaction) t) (s (v t)) es
   where
-    swap : (a b : Bool) → (a && b && true) ≡ (a && true && b)
-    swap true true = refl
-    swap true false = refl
-    swap false b = refl
-
-    none : (a b c : Bool) → (a && b && false) ≡ (a && false && c)
-    none true true c = refl
-    none true false c = refl
-    none false b c = refl
-
     go : (h : Held) (b : Bool) → eqb (h .transaction) t ≡ b → (K h && s (v (h .transaction)) && eqb (h .transaction) t) ≡ (K h && eqb (h .transaction) t && s (v t))
-    go h true e = rw (e, ap (λ u. s (v u)) (eqb-true (h .transaction) t e)) (swap (K h) (s (v t)))
-    go h false e = rw e (none (K h) (s (v (h .transaction))) (s (v t)))
+    go h true e = rw (e, ap (λ u. s (v u)) (eqb-true (h .transaction) t e), and-true (K h && s (v t)), and-true (K h))
+    go h false e = rw (e, and-false (K h && s (v (h .transaction))), and-false (K h))
 
 -- h is a CC or CP
 abbrev pub commits : Held → Bool
@@ -90,7 +74,7 @@ commits h = eqb (h .kind) CC || eqb (h .kind) CP
 abbrev pub Commits : Held → Type 0
 Commits h = (h .kind ≡ CC) ⊎ (h .kind ≡ CP)
 
-pub to-commits : (h : Held) → Commits h → commits h ≡ true
+to-commits : (h : Held) → Commits h → commits h ≡ true
 to-commits h (inl k) = rw k
 to-commits h (inr k) = rw k
 
@@ -163,11 +147,7 @@ module _ (L : ℕ → List Held) (K : Kept L) {j : ℕ} {g : Held} (m : In g (L 
 
   at-p : (i : ℕ) → any (is P (g .transaction)) (upto n (L i)) ≡ true → verdictOf n L i (g .transaction) ≡ flag → lists? n L i (g .transaction) ≡ true
   unfolding lists?
-  at-p i e v = pieces-test _ (g .transaction) (upto n (L i)) ∙ rw (e, v) (go (any (ends (g .transaction)) (upto n (L i))))
-    where
-      go : (b : Bool) → (b && false || true) ≡ true
-      go true = refl
-      go false = refl
+  at-p i e v = pieces-test _ (g .transaction) (upto n (L i)) ∙ rw (e, v) (or-true (any (ends (g .transaction)) (upto n (L i)) && false))
 
   module _ (q : g .epoch ≡ n) (i : ℕ) where
     pub verdict-cc : (h : Held) → In h (L i) → h .kind ≡ CC → h .transaction ≡ g .transaction → verdictOf n L i (g .transaction) ≡ install
@@ -255,11 +235,6 @@ pub from-log : (a : Account) (m : ℕ) {i : ℕ} {h : Held} → In h (streams (c
 from-log a m {i} x = let r = thinned-one (thinned-log a i m) (in-at x .1) in (r .1, at-in (r .2), r .3)
 
 module _ (a : Account) (z : a .closed ≡ 0) (K : Kept (streams a)) where
-  pub closed-closes : (m : ℕ) → closes m a .closed ≡ m
-  unfolding closes close
-  closed-closes zero = z
-  closed-closes (suc m) = ap suc (closed-closes m)
-
   module _ {j : ℕ} {g : Held} (x : In g (streams a j)) (c : g .kind ≡ CC) where
     -- before the close of its CC's epoch the account holds all of it, as it was taken
     pub stays : (m : ℕ) → m < g .epoch → (i : ℕ) → of (g .transaction) (streams (closes m a) i) ≡ of (g .transaction) (streams a i)
@@ -268,7 +243,7 @@ module _ (a : Account) (z : a .closed ≡ 0) (K : Kept (streams a)) where
     stays (suc m) b i =
         let n = suc (closes m a .closed) in
         let q = stays m (omega arith) in
-        of-survivors n (g .transaction) _ (same-verdict n (streams (closes m a)) (streams a) (g .transaction) q i ∙ before (streams a) K x c n (omega (arith, closed-closes m)) i) (streams (closes m a) i)
+        of-survivors n (g .transaction) _ (same-verdict n (streams (closes m a)) (streams a) (g .transaction) q i ∙ before (streams a) K x c n (omega (arith, closes-closed m a)) i) (streams (closes m a) i)
         ∙ q i
 
     -- and that close installs it wherever it has P or CC
@@ -278,7 +253,7 @@ module _ (a : Account) (z : a .closed ≡ 0) (K : Kept (streams a)) where
     together m e i h y t k = lists-own (suc (closes m a .closed)) (streams (closes m a)) (streams a) (g .transaction) (stays m (omega arith)) i ∙ go k
       where
         q : g .epoch ≡ suc (closes m a .closed)
-        q = rw (closed-closes m) e
+        q = omega (arith, closes-closed m a)
 
         go : (h .kind ≡ P) ⊎ (h .kind ≡ CC) → lists? (suc (closes m a .closed)) (streams a) i (g .transaction) ≡ true
         go (inl p) = now-p (streams a) K x c _ q i h y p t
@@ -293,7 +268,7 @@ module _ (a : Account) (z : a .closed ≡ 0) (K : Kept (streams a)) where
   held-ends m t i h x l q k =
       let s = from-log a m {i = i} x in
       let r = commits-decided K (s .1) (commits-same (s .2) k) in
-      (r .0, r .1, r .2, r .3, r .4 ∙ sym (s .2 .transaction) ∙ q, omega (arith, r .5, closed-closes m, s .2 .epoch))
+      (r .0, r .1, r .2, r .3, r .4 ∙ sym (s .2 .transaction) ∙ q, omega (arith, r .5, closes-closed m a, s .2 .epoch))
 
   -- what a close installs has been decided by then
   pub only : (m i t : ℕ) → any (λ u. eqb u t) (installed (closes m a) i) ≡ true → Decided (streams a) (suc m) t

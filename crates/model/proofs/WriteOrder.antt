@@ -2,7 +2,7 @@
 use Prim.Native.Nat.{ℕ, zero, suc, _<_}
 use mathlib.Core.Path.{_≡_, refl, sym, ap, _∙_, fun-ext}
 use mathlib.Core.Logic.{_⊎_, inl, inr}
-use mathlib.Core.Bool.{Bool, true, false, _&&_, _||_}
+use mathlib.Core.Bool.{Bool, true, false, _&&_, _||_, or-false, or-assoc}
 use mathlib.Core.List.{List, [], _∷_, _++_, map, List·Memᴰ, List·Memᴰ·head, List·Memᴰ·tail, List·Memᴰ·append-cases, List·Memᴰ·cases-cons, List·Memᴰ·not-nil}
 use native.Mathlib.Omega.{arith}
 use lib.Dec.{eqb}
@@ -11,7 +11,7 @@ use Rattle.model.specs.Lists.{if_then_else_, filter, any}
 use Rattle.model.specs.Account.{Held, Record}
 use Rattle.model.specs.Closing.{writesTo, written, afterWrites, apply}
 use Rattle.model.specs.Rules.{At, here, there}
-use Rattle.model.proofs.Tests.{no-way, ||-assoc}
+use Rattle.model.proofs.Tests.{no-way}
 use Rattle.model.proofs.Working.{In}
 
 -- nobody that D picks writes key k
@@ -114,20 +114,16 @@ pairs-picked R E (e ∷ es) f = go (E e) refl (pairs-picked R E es (λ p q a b l
 abbrev pub Clear : ℕ → List Held → ℕ → ℕ → Type 0
 Clear k hs x u = (p q : ℕ) (h g : Held) → p < q → At h hs p → At g hs q → writesTo k h ≡ true → h .transaction ≡ u → writesTo k g ≡ true → g .transaction ≡ x → ⊥
 
-||-false : (a : Bool) → (a || false) ≡ a
-||-false true = refl
-||-false false = refl
-
 pub apply-all : (k : ℕ) (hs es : List Held) (y : Record) (D : ℕ → Bool) (ts : List ℕ)
     → ((t : ℕ) → List·Memᴰ t ts → (c : Record) → afterWrites (λ u. eqb u t) k es c ≡ afterWrites (λ u. eqb u t) k hs c)
     → ((x u : ℕ) → D x ≡ true → List·Memᴰ u ts → Clear k hs x u) → Pairs (Clear k hs) ts
     → apply ts k es (afterWrites D k hs y) ≡ afterWrites (λ u. D u || any (λ t. eqb u t) ts) k hs y
 unfolding apply any
-apply-all k hs es y D [] own clear ps = rw (fun-ext (λ u. ||-false (D u)))
+apply-all k hs es y D [] own clear ps = rw (fun-ext (λ u. or-false (D u)))
 apply-all k hs es y D (t ∷ ts) own clear ps =
     ap (apply ts k es) (own t (List·Memᴰ·head refl) (afterWrites D k hs y) ∙ sym (one-more D k t hs cond y))
     ∙ apply-all k hs es y (λ u. D u || eqb u t) ts (λ u m. own u (List·Memᴰ·tail m)) (λ x u d m. next x u m (D x) refl (eqb x t) refl d) (ps .1)
-    ∙ ap (λ E. afterWrites E k hs y) (fun-ext (λ u. ||-assoc (D u) (eqb u t) (any (λ t. eqb u t) ts)))
+    ∙ ap (λ E. afterWrites E k hs y) (fun-ext (λ u. or-assoc (D u) (eqb u t) (any (λ t. eqb u t) ts)))
   where
     cond : (p q : ℕ) (h g : Held) → p < q → At h hs p → At g hs q → writesTo k h ≡ true → h .transaction ≡ t → (writesTo k g && D (g .transaction)) ≡ false
     cond p q h g l a b w e = go (writesTo k g) refl (D (g .transaction)) refl
