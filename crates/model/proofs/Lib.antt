@@ -3,3 +3,4 @@ pub mod Judged
 pub mod Sums
 pub mod KeptByClose
 pub mod Keeping
+pub mod Cases
