@@ -30,6 +30,7 @@ unfolding stageFrom
 stage-snoc t s [] h = refl
 stage-snoc t s (x ∷ hs) h = stage-snoc t _ hs h
 
+-- prepared means that a P is held
 prepared-has : (t : ℕ) (s : Stage) (hs : List Held) → isPrepared s ≡ false → isPrepared (stageFrom t s hs) ≡ true → any (is P t) hs ≡ true
 unfolding stageFrom stageAfter any
 prepared-has t s [] n r = no-way (sym n ∙ r)
@@ -49,6 +50,7 @@ isEnded Writing = false
 isEnded Prepared = false
 isEnded Ended = true
 
+-- an ended transaction takes nothing, and a prepared one only CP and A
 over : {X : Type 0} (s : Stage) (k : ℕ) → isEnded s ≡ true → takes k s ≡ true → X
 unfolding takes
 over Unheard k r t = no-way r
@@ -143,6 +145,7 @@ unfolding reached least
 reached-keeps k stays t = refl
 reached-keeps k flags t = reached-after flag k (omega (arith, takes-prepared k t))
 
+-- there the verdict changes neither the stage nor the one after it
 still-same : {w : Verdict} {s : Stage} → Still w s → shrunk w s ≡ s
 unfolding shrunk
 still-same stays = refl
