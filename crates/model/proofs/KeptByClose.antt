@@ -30,6 +30,7 @@ unfolding stageFrom
 stage-snoc t s [] h = refl
 stage-snoc t s (x ∷ hs) h = stage-snoc t _ hs h
 
+-- prepared means that a P is held
 prepared-has : (t : ℕ) (s : Stage) (hs : List Held) → isPrepared s ≡ false → isPrepared (stageFrom t s hs) ≡ true → any (is P t) hs ≡ true
 unfolding stageFrom stageAfter any
 prepared-has t s [] n r = no-way (sym n ∙ r)
@@ -49,6 +50,7 @@ isEnded Writing = false
 isEnded Prepared = false
 isEnded Ended = true
 
+-- an ended transaction takes nothing, and a prepared one only CP and A
 over : {X : Type 0} (s : Stage) (k : ℕ) → isEnded s ≡ true → takes k s ≡ true → X
 unfolding takes
 over Unheard k r t = no-way r
@@ -123,7 +125,7 @@ reached-after flag k h = rw (lt-leb k DELETE (omega arith)) (go (eqb k P))
     go false = refl
 reached-after stay k h = refl
 
--- the verdicts that are left where the stage is reached and yet an entry is taken
+-- what the verdict and the stage are where the stage is reached and yet an entry is taken
 data Still : Verdict → Stage → Type 0 where
   stays : {s : Stage} → Still stay s
   flags : Still flag Prepared
@@ -143,10 +145,11 @@ unfolding reached least
 reached-keeps k stays t = refl
 reached-keeps k flags t = reached-after flag k (omega (arith, takes-prepared k t))
 
-still-taken : {w : Verdict} {s : Stage} → Still w s → shrunk w s ≡ s
+-- there the verdict changes neither the stage nor the one after it
+still-same : {w : Verdict} {s : Stage} → Still w s → shrunk w s ≡ s
 unfolding shrunk
-still-taken stays = refl
-still-taken flags = refl
+still-same stays = refl
+still-same flags = refl
 
 after-shrunk : {w : Verdict} {s : Stage} (k : ℕ) → Still w s → takes k s ≡ true → shrunk w (stageAfter k) ≡ stageAfter k
 unfolding shrunk stageAfter
@@ -226,6 +229,20 @@ module _ (f k i c o : ℕ) where
     own : entry .transaction ≡ t
     kinds : m ≤ entry .kind
 
+  -- an entry that is kept, in its new place, as it is or flagged
+  module _ (kept before : List Held) (s : Stage) (h : Held) (w : Follows c o before s h) (below : all (λ g. leb (g .epoch) (h .epoch)) kept ≡ true) where
+    kept-same : (ltb (h .kind) CC || ltb (suc c) (h .epoch)) ≡ true → follows (suc c) o kept s h ≡ true
+    unfolding follows every
+    kept-same late = rw (w .from, w .till, below, w .taken, late) (go (h .flagged) refl)
+      where
+        go : (b : Bool) → h .flagged ≡ b → ((not b || eqb (h .kind) P && leb (h .epoch) (suc c) && isUnheard s) && true) ≡ true
+        go true e = let r = flagged-has w e in rw (le-leb (h .epoch) (suc c) (omega (arith, r .0)), r .1, r .2)
+        go false e = refl
+
+    kept-flag : h .kind ≡ P → h .epoch ≤ suc c → follows (suc c) o kept Unheard (withFlag h) ≡ true
+    unfolding follows every takes
+    kept-flag q l = rw (w .from, w .till, below, q, le-leb (h .epoch) (suc c) l)
+
   module _ (v : ℕ → Verdict) where
     -- the stage that the verdict speaks of has been reached, or will be
     abbrev Due : ℕ → List Held → List Held → Type 0
@@ -272,35 +289,11 @@ module _ (f k i c o : ℕ) where
         go t true q = sym (rw (eqb-true (h .transaction) t q) at e)
         go t false q = refl
 
-  -- an entry that is kept, in its new place
-  module _ (kept before : List Held) (s : Stage) (h : Held) (w : Follows c o before s h) (below : all (λ g. leb (g .epoch) (h .epoch)) kept ≡ true) where
-    -- of a later epoch
-    kept-later : suc c < h .epoch → follows (suc c) o kept s h ≡ true
-    unfolding follows every
-    kept-later l = rw (w .from, w .till, below, w .taken, lt-ltb (suc c) (h .epoch) l, or-true (ltb (h .kind) CC)) (go (h .flagged) refl)
-      where
-        go : (b : Bool) → h .flagged ≡ b → ((not b || eqb (h .kind) P && leb (h .epoch) (suc c) && isUnheard s) && true) ≡ true
-        go true e = absurd (omega (arith, flagged-has w e .0))
-        go false e = refl
-
-    kept-stay : h .kind < CC → h .epoch ≤ suc c → follows (suc c) o kept s h ≡ true
-    unfolding follows every
-    kept-stay q l = rw (w .from, w .till, below, w .taken, lt-ltb (h .kind) CC q, le-leb (h .epoch) (suc c) l) (go (h .flagged) refl)
-      where
-        go : (b : Bool) → h .flagged ≡ b → ((not b || eqb (h .kind) P && true && isUnheard s) && true) ≡ true
-        go true e = let r = flagged-has w e in rw (r .1, r .2)
-        go false e = refl
-
-    kept-flag : h .kind ≡ P → h .epoch ≤ suc c → follows (suc c) o kept Unheard (withFlag h) ≡ true
-    unfolding follows every takes
-    kept-flag q l = rw (w .from, w .till, below, q, le-leb (h .epoch) (suc c) l)
-
-  module _ (v : ℕ → Verdict) where
     record Facts (before hs : List Held) : Type 0 where
       quiet : (g : Held) → In g hs → g .epoch ≤ suc c → calm (v (g .transaction)) ≡ true → g .kind < CC
-      due : (t : ℕ) → Due v t before hs
+      due : (t : ℕ) → Due t before hs
 
-    kept-fits : (kept before hs : List Held) → streamFits f k i c o before hs ≡ true → Kept v kept before → Facts before hs → streamFits f k i (suc c) o kept (survivors (suc c) v hs) ≡ true
+    kept-fits : (kept before hs : List Held) → streamFits f k i c o before hs ≡ true → Kept kept before → Facts before hs → streamFits f k i (suc c) o kept (survivors (suc c) v hs) ≡ true
     unfolding streamFits survivors left shrunk calm stageAfter entryFits
     kept-fits kept before [] w r x = refl
     kept-fits kept before (h ∷ hs) w r x = go (leb (h .epoch) (suc c)) refl (v (h .transaction)) refl (λ kept' r'. kept-fits kept' (before ++ h ∷ []) hs (here .rest) r' x')
@@ -310,7 +303,7 @@ module _ (f k i c o : ℕ) where
         here : First before h hs
         here = first before h hs w
         x' : Facts (before ++ h ∷ []) hs
-        x' = record { quiet = λ g m. x .quiet g (List·Memᴰ·tail m); due = λ t. due-step v t before hs h (here .place .taken) (x .due t) }
+        x' = record { quiet = λ g m. x .quiet g (List·Memᴰ·tail m); due = λ t. due-step t before hs h (here .place .taken) (x .due t) }
         below : all (λ g. leb (g .epoch) (h .epoch)) kept ≡ true
         below = r .lower (h .epoch) (here .place .rises)
         Goal : List Held → Type 0
@@ -325,30 +318,30 @@ module _ (f k i c o : ℕ) where
         arrived u q l = still u s (h .kind) (⊎-elim (λ a. rw q at a) (λ y. absurd (omega (arith, y .early, not-before (y .entry) (y .among)))) (x .due (h .transaction))) (here .place .taken)
         calm-kind : calm (v (h .transaction)) ≡ true → leb (h .epoch) (suc c) ≡ true → h .kind < CC
         calm-kind a e = x .quiet h (List·Memᴰ·head refl) (leb-true (h .epoch) (suc c) e) a
-        go : (b : Bool) → leb (h .epoch) (suc c) ≡ b → (u : Verdict) → v (h .transaction) ≡ u → ((kept' : List Held) → Kept v kept' (before ++ h ∷ []) → streamFits f k i (suc c) o kept' (survivors (suc c) v hs) ≡ true)
+        go : (b : Bool) → leb (h .epoch) (suc c) ≡ b → (u : Verdict) → v (h .transaction) ≡ u → ((kept' : List Held) → Kept kept' (before ++ h ∷ []) → streamFits f k i (suc c) o kept' (survivors (suc c) v hs) ≡ true)
             → Goal (if b then left u h else h ∷ [])
         go false e u q rest =
             let l = leb-false (h .epoch) (suc c) e in
             let a = arrived u q l in
-            put h (here .fits) (rw (r .stages (h .transaction), q, still-taken a) (kept-later kept before s h (here .place) below l))
-            (rest (kept ++ h ∷ []) (retained v kept before h h r refl refl refl (rw q (after-shrunk (h .kind) a (here .place .taken)))))
-        go true e free q rest = rest kept (dropped v kept before h r (rw q))
-        go true e install q rest = rest kept (dropped v kept before h r (rw q))
+            put h (here .fits) (rw (r .stages (h .transaction), q, still-same a) (kept-same kept before s h (here .place) below (rw (lt-ltb (suc c) (h .epoch) l) (or-true (ltb (h .kind) CC)))))
+            (rest (kept ++ h ∷ []) (retained kept before h h r refl refl refl (rw q (after-shrunk (h .kind) a (here .place .taken)))))
+        go true e free q rest = rest kept (dropped kept before h r (rw q))
+        go true e install q rest = rest kept (dropped kept before h r (rw q))
         go true e stay q rest =
-            put h (here .fits) (rw (r .stages (h .transaction), q) (kept-stay kept before s h (here .place) below (calm-kind (rw q) e) (leb-true (h .epoch) (suc c) e)))
-            (rest (kept ++ h ∷ []) (retained v kept before h h r refl refl refl (rw q)))
+            put h (here .fits) (rw (r .stages (h .transaction), q) (kept-same kept before s h (here .place) below (rw (lt-ltb (h .kind) CC (calm-kind (rw q) e)))))
+            (rest (kept ++ h ∷ []) (retained kept before h h r refl refl refl (rw q)))
         go true e flag q rest = prepare (eqb (h .kind) P) refl
           where
             prepare : (b : Bool) → eqb (h .kind) P ≡ b → Goal (if b then withFlag h ∷ [] else [])
             prepare true z =
                 let p = eqb-true (h .kind) P z in
                 put (withFlag h) (here .fits) (rw (r .stages (h .transaction), q, fresh-shrunk s (h .kind) (omega arith) (here .place .taken)) (kept-flag kept before s h (here .place) below p (leb-true (h .epoch) (suc c) e)))
-                (rest (kept ++ withFlag h ∷ []) (retained v kept before h (withFlag h) r refl refl refl (rw (q, p))))
+                (rest (kept ++ withFlag h ∷ []) (retained kept before h (withFlag h) r refl refl refl (rw (q, p))))
             prepare false z =
                 let n = eqb-false (h .kind) P z in
                 let m = calm-kind (rw q) e in
                 let d : h .kind ≤ DELETE = omega arith in
-                rest kept (dropped v kept before h r (rw (q, le-leb (h .kind) DELETE d, fresh-shrunk s (h .kind) (omega arith) (here .place .taken))))
+                rest kept (dropped kept before h r (rw (q, le-leb (h .kind) DELETE d, fresh-shrunk s (h .kind) (omega arith) (here .place .taken))))
 
   -- ---- what the verdict says
 

@@ -3,6 +3,7 @@ pub mod Judged
 pub mod Sums
 pub mod KeptByClose
 pub mod Keeping
+<<<<<<< HEAD
 pub mod Runs
 pub mod Working
 pub mod Own
@@ -18,3 +19,6 @@ pub mod RuleTest
 pub mod WorkedLog
 pub mod TakenLog
 pub mod Followed
+=======
+pub mod Cases
+>>>>>>> afa84f79661652b5284e0397bfbe649c44a53ade
