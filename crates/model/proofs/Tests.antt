@@ -120,6 +120,7 @@ module _ {X : Type 0} where
   all-snoc p [] x = and-true (p x)
   all-snoc p (y ∷ xs) x = rw (all-snoc p xs x) (sym (and-assoc (p y) (all p xs) (p x)))
 
+<<<<<<< HEAD
   pub all-in : (p : X → Bool) {x : X} {xs : List X} → all p xs ≡ true → List·Memᴰ x xs → p x ≡ true
   unfolding all
   all-in p a (List·Memᴰ·head {x = y} e) = rw e (and-l (p y) _ a)
@@ -142,3 +143,18 @@ module _ {X : Type 0} where
       go : (b : Bool) → p y ≡ b → List·Memᴰ x (if b then y ∷ filter p ys else filter p ys) → (List·Memᴰ x (filter p ys) → List·Memᴰ x ys × (p x ≡ true)) → List·Memᴰ x (y ∷ ys) × (p x ≡ true)
       go true e m ih = ⊎-elim (λ z. (List·Memᴰ·head z, rw z e)) (λ z. let r = ih z in (List·Memᴰ·tail (r .0), r .1)) (List·Memᴰ·cases-cons m)
       go false e m ih = let r = ih m in (List·Memᴰ·tail (r .0), r .1)
+=======
+  pub filter-filter : (p q : X → Bool) (xs : List X) → filter p (filter q xs) ≡ filter (λ x. q x && p x) xs
+  unfolding filter
+  filter-filter p q [] = refl
+  filter-filter p q (x ∷ xs) = go (q x) (filter-filter p q xs)
+    where
+      go : (b : Bool) → filter p (filter q xs) ≡ filter (λ x. q x && p x) xs → filter p (if b then x ∷ filter q xs else filter q xs) ≡ (if b && p x then x ∷ filter (λ x. q x && p x) xs else filter (λ x. q x && p x) xs)
+      go true ih = rw ih
+      go false ih = ih
+
+  pub all-append : (p : X → Bool) (xs ys : List X) → all p (xs ++ ys) ≡ (all p xs && all p ys)
+  unfolding all
+  all-append p [] ys = refl
+  all-append p (x ∷ xs) ys = rw (all-append p xs ys) (sym (and-assoc (p x) (all p xs) (all p ys)))
+>>>>>>> 2daacff3d9e51d220812e4f9b6a2e0d1e067f065
