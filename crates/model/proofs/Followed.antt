@@ -18,8 +18,8 @@ use Rattle.model.specs.Rules.{inEpochs, At, here, there, FirstPart, Stan
 use Rattle.model.specs.Installed.{Follows}
 use Rattle.model.specs.declared.Entry.{Entry}
 use Rattle.model.proofs.Judged.{taken-facts, all-marked}
-use Rattle.model.proofs.Runs.{takeList, takeAll, closes, run-is, log-outside}
-use Rattle.model.proofs.Prefix.{closes-closed, closes-epoch, closes-fragments}
+use Rattle.model.proofs.Runs.{takeList, takeAll, closes, closes-closed, run-is, log-outside}
+use Rattle.model.proofs.Prefix.{closes-epoch, closes-fragments}
 use Rattle.model.proofs.Working.{In, streams, Kept, Ordered, in-at, at-in}
 use Rattle.model.proofs.Epochs.{epochAfter, InStream, in-stream, rising, at-below, at-whole, at-part, Cut, cut}
 use Rattle.model.proofs.TakenLog.{Tabled, tabled}

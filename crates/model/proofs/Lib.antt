@@ -1,11 +1,19 @@
+-- tests and sums that the other pages share
 pub mod Tests
-<<<<<<< HEAD
-pub mod Judged
 pub mod Sums
+pub mod Judged
+-- 1: well-formedness is kept
 pub mod KeptByClose
 pub mod Keeping
-<<<<<<< HEAD
+-- 2: the image
+pub mod Decode
+pub mod Buckets
+pub mod Shows
+pub mod Forms
+pub mod Image
+-- 3: runs in any order
 pub mod Runs
+-- 4: under the five log rules
 pub mod Working
 pub mod Own
 pub mod Survivors
@@ -16,17 +24,10 @@ pub mod Earlier
 pub mod Records
 pub mod Prefix
 pub mod Epochs
-pub mod RuleTest
-pub mod WorkedLog
 pub mod TakenLog
 pub mod Followed
-=======
+pub mod LogRules
+pub mod RuleTest
+-- 5: worked cases
 pub mod Cases
->>>>>>> afa84f79661652b5284e0397bfbe649c44a53ade
-=======
-pub mod Decode
-pub mod Buckets
-pub mod Shows
-pub mod Forms
-pub mod Image
->>>>>>> 2daacff3d9e51d220812e4f9b6a2e0d1e067f065
+pub mod WorkedLog

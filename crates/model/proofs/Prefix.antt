@@ -27,12 +27,12 @@ takeList-records s (e ∷ es) = takeList-records (take s e) es
 
 -- ---- closes change neither the open epochs nor the number of fragments
 
-closes-fragments : (m : ℕ) (a : Account) → closes m a .fragments ≡ a .fragments
+pub closes-fragments : (m : ℕ) (a : Account) → closes m a .fragments ≡ a .fragments
 unfolding closes close
 closes-fragments zero a = refl
 closes-fragments (suc m) a = closes-fragments m a
 
-closes-epoch : (m : ℕ) (a : Account) (i : ℕ) → closes m a .at i .counters .epoch ≡ a .at i .counters .epoch
+pub closes-epoch : (m : ℕ) (a : Account) (i : ℕ) → closes m a .at i .counters .epoch ≡ a .at i .counters .epoch
 unfolding closes close settle
 closes-epoch zero a i = refl
 closes-epoch (suc m) a i = closes-epoch m a i
