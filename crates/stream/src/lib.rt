@@ -13,12 +13,14 @@ pub fn stepped(c: Counters, mark: bool) -> Counters
     requires { ⌜ (mark ≡ true → c .epoch ≤ LAST-MARK) ⌝ }
     ensures { λ r. ⌜ r ≡ stepped c mark ⌝ }
 {
-    let next = std::num::wrapping_add_u16(c.next, 1);
+    let taken = c.next;
     let epoch = c.epoch;
+    let next = std::num::wrapping_add_u16(taken, 1);
     if mark {
+        let raised = epoch + 1;
         Counters {
             next,
-            epoch: epoch + 1,
+            epoch: raised,
         }
     } else {
         Counters { next, epoch }

@@ -9,8 +9,8 @@ use Rattle.stream.proofs.stepped.Tie as tie
 wrapping-add-u16-requires : tie.Need-wrapping-add-u16-requires
 wrapping-add-u16-requires c κs = search needs
 
-add-t7 : tie.Need-add-t7
-add-t7 c = omega (arith, c .before .before .pre (c .if1 .taken))
+add-raised : tie.Need-add-raised
+add-raised c = omega (arith, c .before .before .pre (c .if1 .taken))
 
 returns : tie.Need-returns
 unfolding stepped
@@ -21,4 +21,4 @@ unfolding stepped
 returns-2 c = simp (c .if1 .left, c .before .wrapping-add-u16 .ensures)
 
 pub stepped-spec : {M : Type 1} → statement M
-stepped-spec = tie.close (tie.spec wrapping-add-u16-requires add-t7 returns returns-2)
+stepped-spec = tie.close (tie.spec wrapping-add-u16-requires add-raised returns returns-2)
