@@ -81,6 +81,10 @@ pub at-first : {h : Held} {p : ℕ} {xs : List Held} (ys : List Held) → At h x
 at-first ys (here e) = here e
 at-first ys (there a) = there (at-first ys a)
 
+pub at-second : {h : Held} {p : ℕ} {ys : List Held} (xs : List Held) → At h ys p → At h (xs ++ ys) (length xs + p)
+at-second {p = p} [] a = let z : 0 + p ≡ p = omega arith in rw z a
+at-second {h} {p} {ys} (x ∷ xs) a = let z : suc (length xs) + p ≡ suc (length xs + p) = omega arith in rw z (there (at-second xs a))
+
 pub at-either : {h : Held} {p : ℕ} (xs ys : List Held) → At h (xs ++ ys) p → (At h xs p) ⊎ ((q : ℕ) × At h ys q)
 at-either {h} {p} [] ys a = inr (p, a)
 at-either (x ∷ xs) ys (here e) = inl (here e)

@@ -159,18 +159,16 @@ module _ {number f k : ℕ} {ss : List Step} {wrote : ℕ → List Entry} (F : F
   of-stream : {i p : ℕ} {h : Held} → Taken i p h → InStream 1 h
   of-stream {i} x = in-stream 1 (part i .first) (x .at)
 
-  rise : {i p q : ℕ} {h g : Held} → Taken i p h → Taken i q g → p ≤ q → h .epoch ≤ g .epoch
-  rise {i} x y l = rising 1 (part i .first) (x .at) (y .at) l
-
   -- there is one CC of a transaction
-  one-cc : {i j p q : ℕ} {h g : Held} → Taken i p h → Taken j q g → h .kind ≡ CC → g .kind ≡ CC → h .transaction ≡ g .transaction → h .epoch ≡ g .epoch
-  one-cc {i} {j} {p} {q} {h} {g} x y c d t =
-      go (R .coordinator-commits (stand x) (c, refl) ∙ ap (R .coordinatorOf) t ∙ sym (R .coordinator-commits (stand y) (d, refl))) (decLt p q) (decLt q p)
+  pub one-commit : {i j p q : ℕ} {h g : Held} → Stands f wrote i p h → Stands f wrote j q g → h .kind ≡ CC → g .kind ≡ CC → h .transaction ≡ g .transaction → h .epoch ≡ g .epoch
+  one-commit {i} {j} {p} {q} {h} {g} x y c d t = go (R .coordinator-commits x (c, refl) ∙ ap (R .coordinatorOf) t ∙ sym (R .coordinator-commits y (d, refl))) (decLt p q) (decLt q p)
     where
       go : i ≡ j → Dec (p < q) → Dec (q < p) → h .epoch ≡ g .epoch
-      go e (yes l) r = absurd (R .nothing-follows (rw e at (stand x)) (stand y) l (omega arith, omega arith, t) refl)
-      go e (no l) (yes r) = absurd (R .nothing-follows (stand y) (rw e at (stand x)) r (omega arith, omega arith, sym t) refl)
-      go e (no l) (no r) = let x' : Taken j p h = rw e at x in omega (arith, rise x' y (omega arith), rise y x' (omega arith))
+      go e (yes l) r = absurd (R .nothing-follows (rw e at x) y l (omega arith, omega arith, t) refl)
+      go e (no l) (yes r) = absurd (R .nothing-follows y (rw e at x) r (omega arith, omega arith, sym t) refl)
+      go e (no l) (no r) =
+          let x' : Stands f wrote j p h = rw e at x in
+          omega (arith, rising 1 (wrote j) (x' .at) (y .at) (omega arith), rising 1 (wrote j) (y .at) (x' .at) (omega arith))
 
   abbrev PreparedAfter : ℕ → ℕ → ℕ → Type 0
   PreparedAfter i p t = (r : ℕ) × (e : Held) × (p < r) × Taken i r e × (e .kind ≡ P) × (e .transaction ≡ t)
@@ -189,17 +187,12 @@ module _ {number f k : ℕ} {ss : List Step} {wrote : ℕ → List Entry} (F : F
     fresh = λ {i} x. of-stream (spot i x .1) .unflagged;
     begun = λ {i} x. of-stream (spot i x .1) .from;
     names = λ {i} {j} x y p c t. R .prepare-names (stand (spot i x .1)) (p, t) ∙ sym (R .coordinator-commits (stand (spot j y .1)) (c, refl));
-    one = λ {i} {j} x y c d t. one-cc (spot i x .1) (spot j y .1) c d t;
-    prepares = λ {i} {j} {h} x y w c t. weaker i j (h .transaction) _ (prepares (spot i x .1) (spot j y .1) w c t);
+    one = λ {i} {j} x y c d t. one-commit (stand (spot i x .1)) (stand (spot j y .1)) c d t;
     intime = λ {i} {j} x y p c t. R .prepared-by (stand (spot j y .1)) (c, refl) (stand (spot i x .1)) (p, t);
     backed = λ {i} {h} x c. back h (by (spot i x .1)) (R .commit-decided (stand (spot i x .1)) (c, refl));
     kept = λ {i} {j} x y a c t. R .never-both (stand (spot j y .1)) (c, refl) (stand (spot i x .1)) (a, t);
   }
     where
-      weaker : (i j t p : ℕ) → (i ≡ j) ⊎ PreparedAfter i p t → (i ≡ j) ⊎ ((e : Held) × In e (L i) × (e .kind ≡ P) × (e .transaction ≡ t))
-      weaker i j t p (inl e) = inl e
-      weaker i j t p (inr (r, e, l, x, k, q)) = inr (e, at-in (x .at), k, q)
-
       back : (h : Held) → h .epoch ≤ last → (j : ℕ) × (c : ℕ) × (g : Held) × Stands f wrote j c g × ((g .kind ≡ CC) × (g .transaction ≡ h .transaction)) × (g .epoch ≤ h .epoch)
           → (j : ℕ) × (g : Held) × In g (L j) × (g .kind ≡ CC) × (g .transaction ≡ h .transaction) × (g .epoch ≤ h .epoch)
       back h b (j, c, g, s, e, l) = (j, g, at-in (within s (omega arith) .at), e .0, e .1, l)

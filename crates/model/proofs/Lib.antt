@@ -26,6 +26,7 @@ pub mod Prefix
 pub mod Epochs
 pub mod TakenLog
 pub mod Followed
+pub mod Listed
 pub mod LogRules
 pub mod RuleTest
 -- 5: worked cases

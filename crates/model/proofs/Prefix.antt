@@ -20,7 +20,7 @@ pub takeAll-append : (es fs : ℕ → List Entry) (a : Account) → takeAll (λ 
 unfolding takeAll
 takeAll-append es fs a = ap (λ f. record { number = a .number; fragments = a .fragments; keys = a .keys; closed = a .closed; at = f }) (fun-ext λ j. takeList-append (a .at j) (es j) (fs j))
 
-takeList-records : (s : Fragment) (es : List Entry) → takeList s es .records ≡ s .records
+pub takeList-records : (s : Fragment) (es : List Entry) → takeList s es .records ≡ s .records
 unfolding takeList take
 takeList-records s [] = refl
 takeList-records s (e ∷ es) = takeList-records (take s e) es

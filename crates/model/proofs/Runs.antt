@@ -143,7 +143,7 @@ unfolding closes close
 closes-closed zero a = omega arith
 closes-closed (suc m) a = omega (arith, closes-closed m a)
 
-closes-front : (m : ℕ) (a : Account) → closes m (close a) ≡ close (closes m a)
+pub closes-front : (m : ℕ) (a : Account) → closes m (close a) ≡ close (closes m a)
 unfolding closes
 closes-front zero a = refl
 closes-front (suc m) a = ap close (closes-front m a)

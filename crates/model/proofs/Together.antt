@@ -44,7 +44,7 @@ upto-out p n hs e =
 
 -- ---- the list of pieces, as a test
 
-any-map : {X Y : Type 0} (p : Y → Bool) (f : X → Y) (xs : List X) → any p (map f xs) ≡ any (λ x. p (f x)) xs
+pub any-map : {X Y : Type 0} (p : Y → Bool) (f : X → Y) (xs : List X) → any p (map f xs) ≡ any (λ x. p (f x)) xs
 unfolding any
 any-map p f [] = refl
 any-map p f (x ∷ xs) = rw (any-map p f xs)
@@ -292,14 +292,3 @@ module _ (a : Account) (z : a .closed ≡ 0) (K : Kept (streams a)) where
           let r = upto-out _ n (H i) (flag-by (committed n H) (upto n (H i)) t (and-r (any (is P t) (upto n (H i))) _ p)) in
           let s = upto-out (is CC t) n (H (coordinator (r .0))) (and-r (unflaggedP t (r .0)) _ (r .3)) in
           held-ends m t (coordinator (r .0)) (s .0) (s .1) (s .2) (is-transaction CC t (s .0) (s .3)) (inl (is-kind CC t (s .0) (s .3)))
-
-  -- a transaction that wrote at fragments i and i′ and is installed at one is installed at the other
-  pub all-or-none : (m t i i′ : ℕ) (h : Held) → Installed a m i t → In h (streams a i′) → h .kind ≤ DELETE → h .transaction ≡ t → Installed a m i′ t
-  all-or-none m t i i′ h (k, l, e) x w q = go (only k i t e)
-    where
-      go : Decided (streams a) (suc k) t → Installed a m i′ t
-      go (j, g, y, c, q′, b) = rw (← q′) (there (K .prepares x y w c (q ∙ sym q′)))
-        where
-          there : (i′ ≡ j) ⊎ ((p : Held) × In p (streams a i′) × (p .kind ≡ P) × (p .transaction ≡ h .transaction)) → Installed a m i′ (g .transaction)
-          there (inl u) = rw u (installed-by y c (omega arith) y refl (inr c))
-          there (inr (p, v, k′, t′)) = installed-by y c (omega arith) v (t′ ∙ q ∙ sym q′) (inl k′)

@@ -24,8 +24,7 @@ pub record Kept (L : ℕ → List Held) : Type 0 where
   -- 1: CC(T) stands only in the coordinator's stream, each P(T) names that coordinator, and there is one CC(T)
   pub names : {i j : ℕ} {h g : Held} → In h (L i) → In g (L j) → h .kind ≡ P → g .kind ≡ CC → h .transaction ≡ g .transaction → coordinator h ≡ j
   pub one : {i j : ℕ} {h g : Held} → In h (L i) → In g (L j) → h .kind ≡ CC → g .kind ≡ CC → h .transaction ≡ g .transaction → h .epoch ≡ g .epoch
-  -- 2: if CC(T) exists, each other fragment with writes of T has P(T), and each P(T) is in an epoch not later than CC(T)'s
-  pub prepares : {i j : ℕ} {h g : Held} → In h (L i) → In g (L j) → h .kind ≤ DELETE → g .kind ≡ CC → h .transaction ≡ g .transaction → (i ≡ j) ⊎ ((p : Held) × In p (L i) × (p .kind ≡ P) × (p .transaction ≡ h .transaction))
+  -- 2: if CC(T) exists, each P(T) is in an epoch not later than CC(T)'s
   pub intime : {i j : ℕ} {h g : Held} → In h (L i) → In g (L j) → h .kind ≡ P → g .kind ≡ CC → h .transaction ≡ g .transaction → h .epoch ≤ g .epoch
   -- 3: a CP(T) exists only if CC(T) does, in CC(T)'s epoch or a later one
   pub backed : {i : ℕ} {h : Held} → In h (L i) → h .kind ≡ CP → (j : ℕ) × (g : Held) × In g (L j) × (g .kind ≡ CC) × (g .transaction ≡ h .transaction) × (g .epoch ≤ h .epoch)
