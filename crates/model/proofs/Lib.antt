@@ -4,3 +4,4 @@ pub mod Buckets
 pub mod Shows
 pub mod Forms
 pub mod Image
+pub mod ByStream
