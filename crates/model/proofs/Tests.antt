@@ -133,3 +133,8 @@ module _ {X : Type 0} where
   unfolding all
   all-append p [] ys = refl
   all-append p (x ∷ xs) ys = rw (all-append p xs ys) (sym (and-assoc (p x) (all p xs) (all p ys)))
+
+pub every-append : (xs ys : List Bool) → every (xs ++ ys) ≡ (every xs && every ys)
+unfolding every
+every-append [] ys = refl
+every-append (x ∷ xs) ys = rw (every-append xs ys) (sym (and-assoc x (every xs) (every ys)))
