@@ -1,14 +1,13 @@
 -- What holding an entry does to the items of a section, stream by stream: it comes last in its own, the others stay, and the section still passes the test. Assumes nothing.
 use Prim.Native.Nat.{ℕ, _+_, _*_, _-_, _≤_, _<_}
-use mathlib.Core.Path.{_≡_, refl, sym, ap, _∙_}
+use mathlib.Core.Path.{_≡_, refl, ap, _∙_}
 use mathlib.Core.Bool.{true}
 use mathlib.Core.List.{List, [], _∷_, _++_, append-nil}
 use native.Mathlib.Omega.{arith}
-use lib.Dec.{ltb, eqb}
+use lib.Dec.{ltb}
 use lib.ListN.{length, drop}
 use borrow.Author.Tests.{eq-eqb, ne-eqb, ltb-true}
-use Rattle.model.specs.Lists.{if_then_else_, all}
-use Rattle.model.specs.Account.{Held}
+use Rattle.model.specs.Lists.{all}
 use Rattle.model.specs.Entry.{entryOf, fits}
 use Rattle.model.specs.Taking.{hold}
 use Rattle.model.specs.Image.{Item}

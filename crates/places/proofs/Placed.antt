@@ -1,23 +1,23 @@
 -- The 20 bytes under which an entry is held, the item that they are, and what holding it leaves. Assumes nothing.
 use Prim.Native.Nat.{ℕ, _+_, _*_, _-_, _≤_, _<_, _^_}
-use mathlib.Core.Path.{_≡_, refl, sym, ap, _∙_}
+use mathlib.Core.Path.{_≡_, sym, ap, _∙_}
 use mathlib.Core.Logic.{_⊎_, inl, inr}
-use mathlib.Core.Bool.{true, false, _&&_}
-use mathlib.Core.List.{List, [], _∷_, _++_}
+use mathlib.Core.Bool.{true, _&&_}
+use mathlib.Core.List.{List, _∷_, _++_}
 use native.Mathlib.Omega.{arith}
-use lib.Dec.{leb, eqb}
+use lib.Dec.{eqb}
 use lib.ListN.{length, getD, take, drop, replicate, length-append, List·getD-append}
 use lib.Seq.{take-length}
 use borrow.Author.Tests.{eqb-true}
-use Rattle.wire.specs.Numbers.{number16, number32, with16, with32}
+use Rattle.wire.specs.Numbers.{number16, with16, with32}
 use Rattle.wire.specs.Laws.{Same, length-put16, length-put32, get16-put16, get32-put32, put16-same, put32-same, le16-same, le32-same}
 use Rattle.model.specs.Lists.{every}
 use Rattle.model.specs.Entry.{entryOf, fits}
 use Rattle.model.specs.Taking.{hold}
 use Rattle.model.specs.Decoding.{itemOf, parse}
-use Rattle.model.proofs.Tests.{and-l, and-r, and, every-append}
+use Rattle.model.proofs.Tests.{and-l, and-r, every-append}
 use Rattle.places.specs.Moves.{inserted}
-use Rattle.places.specs.Places.{items, plainPlace, plain, endOf, heldItem, EntryHeld}
+use Rattle.places.specs.Places.{plainPlace, endOf, heldItem, EntryHeld}
 use Rattle.places.proofs.Sections.{parse-split, insert-parts}
 
 item-reads : (l m : List ℕ) → Same l m 0 20 → itemOf l ≡ itemOf m
@@ -114,7 +114,13 @@ hold-is h h' e b1 b2 b3 n o p lh ln le bo lp ep q1 q2 q3 q4 =
     record {
       are = λ fit. rw (q, ← ep, ← placed-item e o le fit bo) (insert-parts itemOf item-reads h (placed e o) p n lp (omega arith) (length-placed e o le));
       stays-plain = λ fit w.
-        let ab = sym both ∙ w in
-        rw (q, insert-parts plainPlace plain-reads h (placed e o) p n lp (omega arith) (length-placed e o le), every-append A (plainPlace (placed e o) ∷ B),
-          and-l (every A) (every B) ab, placed-plain e o le fit, and-r (every A) (every B) ab);
+          let ab = sym both ∙ w in
+          rw (
+            q,
+            insert-parts plainPlace plain-reads h (placed e o) p n lp (omega arith) (length-placed e o le),
+            every-append A (plainPlace (placed e o) ∷ B),
+            and-l (every A) (every B) ab,
+            placed-plain e o le fit,
+            and-r (every A) (every B) ab,
+          );
     }

@@ -1,6 +1,6 @@
 -- Parts of 20 bytes, however they are read: n and m of them, and one put in between. Assumes nothing.
-use Prim.Native.Nat.{ℕ, zero, suc, _+_, _*_, _-_, _≤_, _<_}
-use mathlib.Core.Path.{_≡_, refl, sym, ap, _∙_}
+use Prim.Native.Nat.{ℕ, zero, suc, _+_, _*_, _-_, _≤_}
+use mathlib.Core.Path.{_≡_, refl, sym, _∙_}
 use mathlib.Core.List.{List, [], _∷_, _++_, append-nil}
 use native.Mathlib.Omega.{arith}
 use lib.ListN.{length, take, drop, take-append-drop, length-drop, List·getD-append}
@@ -28,8 +28,12 @@ module _ {X : Type 0} (dec : List ℕ → X) where
     unfolding parse
     parse-front zero s t u h = refl
     parse-front (suc n) s t u h =
-        rw (reads (s ++ t) (s ++ u) (same-front s t u (omega arith)), drop-append-le 20 s t (omega arith), drop-append-le 20 s u (omega arith),
-          parse-front n (drop 20 s) t u (omega (arith, length-drop 20 s)))
+        rw (
+          reads (s ++ t) (s ++ u) (same-front s t u (omega arith)),
+          drop-append-le 20 s t (omega arith),
+          drop-append-le 20 s u (omega arith),
+          parse-front n (drop 20 s) t u (omega (arith, length-drop 20 s)),
+        )
 
     -- the part r put in at p of n
     pub insert-parts : (h r : List ℕ) (p n : ℕ) → p ≤ n → n * 20 + 20 ≤ length h → length r ≡ 20
@@ -42,8 +46,6 @@ module _ {X : Type 0} (dec : List ℕ → X) where
         let lp : length (take (p * 20) h) ≡ p * 20 = length-take-le (p * 20) h (omega arith) in
         let a : parse p 20 dec (take (p * 20) h ++ (r ++ t)) ≡ parse p 20 dec h = parse-front p (take (p * 20) h) (r ++ t) (drop (p * 20) h) (omega arith) ∙ rw (take-append-drop (p * 20) h) in
         let b : dec (r ++ t) ≡ dec r = reads (r ++ t) r (rw append-nil at (same-front r t [] (omega arith))) in
-        let d : s ++ drop (n * 20) h ≡ drop (p * 20) h =
-          sym (drop-append-le (p * 20) (take (n * 20) h) (drop (n * 20) h) (omega (arith, length-take-le (n * 20) h (omega arith)))) ∙ rw (take-append-drop (n * 20) h) in
-        let c : parse (n - p) 20 dec t ≡ parse (n - p) 20 dec (drop (p * 20) h) =
-          parse-front (n - p) s (drop (n * 20 + 20) h) (drop (n * 20) h) (omega (arith, length-slice (p * 20) (n * 20) h (omega arith))) ∙ rw d in
+        let d : s ++ drop (n * 20) h ≡ drop (p * 20) h = sym (drop-append-le (p * 20) (take (n * 20) h) (drop (n * 20) h) (omega (arith, length-take-le (n * 20) h (omega arith)))) ∙ rw (take-append-drop (n * 20) h) in
+        let c : parse (n - p) 20 dec t ≡ parse (n - p) 20 dec (drop (p * 20) h) = parse-front (n - p) s (drop (n * 20 + 20) h) (drop (n * 20) h) (omega (arith, length-slice (p * 20) (n * 20) h (omega arith))) ∙ rw d in
         rw (e, parse-split p (suc (n - p)) (take (p * 20) h ++ (r ++ t)), drop-at (take (p * 20) h) (r ++ t) (p * 20) lp, drop-at r t 20 len, a, b, c)

@@ -1,7 +1,7 @@
 -- The places of a held section, the end of a stream's entries among them, and an entry put in there.
 use Prim.Native.Nat.{ℕ, zero, suc, _+_, _*_, _-_}
 use mathlib.Core.Path.{_≡_}
-use mathlib.Core.Bool.{Bool, true, false}
+use mathlib.Core.Bool.{Bool, true}
 use mathlib.Core.List.{List, [], _∷_, _++_}
 use lib.Dec.{leb, eqb}
 use lib.ListN.{getD, drop}
@@ -34,6 +34,6 @@ heldItem bytes epoch = record { stream = entryOf bytes .fragment; entry = hold (
 -- h' is the section h of n places with the entry put in at the end of its stream's entries
 pub record EntryHeld (h h' : List ℕ) (n : ℕ) (bytes : List ℕ) (epoch : ℕ) : Type 0 where
   pub are :
-    let p = endOf h n (entryOf bytes .fragment) in
-    fits (entryOf bytes) ≡ true → items (n + 1) h' ≡ items p h ++ (heldItem bytes epoch ∷ items (n - p) (drop (p * 20) h))
+      let p = endOf h n (entryOf bytes .fragment) in
+      fits (entryOf bytes) ≡ true → items (n + 1) h' ≡ items p h ++ (heldItem bytes epoch ∷ items (n - p) (drop (p * 20) h))
   pub stays-plain : fits (entryOf bytes) ≡ true → plain n h ≡ true → plain (n + 1) h' ≡ true
