@@ -10,6 +10,7 @@ pub mod Decode
 pub mod Buckets
 pub mod Shows
 pub mod Forms
+pub mod ByStream
 pub mod Image
 -- 3: runs in any order
 pub mod Runs

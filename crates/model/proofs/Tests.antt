@@ -147,3 +147,8 @@ module _ {X : Type 0} where
       go : (b : Bool) → filter p (filter q xs) ≡ filter (λ x. q x && p x) xs → filter p (if b then x ∷ filter q xs else filter q xs) ≡ (if b && p x then x ∷ filter (λ x. q x && p x) xs else filter (λ x. q x && p x) xs)
       go true ih = rw ih
       go false ih = ih
+
+pub every-append : (xs ys : List Bool) → every (xs ++ ys) ≡ (every xs && every ys)
+unfolding every
+every-append [] ys = refl
+every-append (x ∷ xs) ys = rw (every-append xs ys) (sym (and-assoc x (every xs) (every ys)))

@@ -1,0 +1,5 @@
+pub mod Moves
+pub mod Sections
+pub mod Ends
+pub mod Placed
+pub mod Holding
