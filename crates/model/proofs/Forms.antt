@@ -21,7 +21,7 @@ use Rattle.model.proofs.Shows.{item, both, form-account}
 -- ---- held entries
 
 module _ (i : ℕ) where
-  mine-append : (xs ys : List Item) → mine i (xs ++ ys) ≡ mine i xs ++ mine i ys
+  pub mine-append : (xs ys : List Item) → mine i (xs ++ ys) ≡ mine i xs ++ mine i ys
   unfolding mine
   mine-append [] ys = refl
   mine-append (x ∷ xs) ys = rw (mine-append xs ys) (sym (if-ap (λ hs. hs ++ mine i ys) (eqb (x .stream) i) (x .entry ∷ mine i xs) (mine i xs)))
@@ -37,7 +37,7 @@ module _ (i : ℕ) where
   mine-other j (h ∷ hs) n = rw (ne-eqb j i n) (mine-other j hs n)
 
 module _ (k c : ℕ) (ss : List Counters) where
-  held-append : (before xs ys : List Item) → heldFits k c ss before (xs ++ ys) ≡ (heldFits k c ss before xs && heldFits k c ss (before ++ xs) ys)
+  pub held-append : (before xs ys : List Item) → heldFits k c ss before (xs ++ ys) ≡ (heldFits k c ss before xs && heldFits k c ss (before ++ xs) ys)
   unfolding heldFits
   held-append before [] ys = rw (append-nil before)
   held-append before (x ∷ xs) ys = rw (held-append (before ++ x ∷ []) xs ys, append-assoc before (x ∷ []) xs) (simp and-assoc)
