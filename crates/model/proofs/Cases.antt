@@ -1,4 +1,4 @@
--- The worked case of document 01 and its starred lines, computed from the definitions. Assumes nothing.
+-- The worked case of docs/RULES.md and its starred lines, computed from the definitions. Assumes nothing.
 use Prim.Native.Nat.{ℕ, zero, suc}
 use mathlib.Core.Path.{_≡_, refl}
 use mathlib.Core.Bool.{Bool, true, false, not, _&&_}
@@ -137,7 +137,7 @@ freeing = flagging ++ taking (commit CP 1 3 1) ∷ taking (mark 1 4 2) ∷ closi
 abbrev pub flaggedPrepare : Item
 flaggedPrepare = record { stream = 1; entry = record { kind = P; transaction = 1; argument = 0; value = 0; flagged = true; epoch = 1 } }
 
--- what the definitions compute, and what document 01 says
+-- what the definitions compute, and what docs/RULES.md says
 pub record Line : Type 0 where
   pub computed : Fact
   pub said : Fact

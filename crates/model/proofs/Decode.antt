@@ -83,8 +83,15 @@ length-form x =
     let s = each stream8 (x .streams) in
     let r = each record8 (x .records) in
     let h = each held20 (x .held) in
-    omega (arith, length-bytes x, length-append s (r ++ h), length-append r h, length-each stream8 8 stream-long (x .streams),
-      length-each record8 8 record-long (x .records), length-each held20 20 item-long (x .held))
+    omega (
+      arith,
+      length-bytes x,
+      length-append s (r ++ h),
+      length-append r h,
+      length-each stream8 8 stream-long (x .streams),
+      length-each record8 8 record-long (x .records),
+      length-each held20 20 item-long (x .held),
+    )
 
 pub last-append : (p q : List ℕ) (n : ℕ) → n ≤ length q → lastOf n (p ++ q) ≡ lastOf n q
 unfolding lastOf
@@ -139,10 +146,19 @@ module _ (x : Form) (t : List ℕ) where
   pub with-trailer : (n : ℕ) → decodeWith (trailer24 x n) (body x ++ t) ≡ x
   unfolding decodeWith
   with-trailer n =
-      rw (t-number x n, t-size x n, t-keys x n, t-records x n, t-held x n, t-closed x n, streams-back, past-streams,
+      rw (
+        t-number x n,
+        t-size x n,
+        t-keys x n,
+        t-records x n,
+        t-held x n,
+        t-closed x n,
+        streams-back,
+        past-streams,
         parse-each record8 8 record-long presentOf record-back (x .records) (each held20 (x .held) ++ t),
         drop-each record8 8 record-long (x .records) (each held20 (x .held) ++ t),
-        parse-each held20 20 item-long itemOf item-back (x .held) t)
+        parse-each held20 20 item-long itemOf item-back (x .held) t,
+      )
 
 -- ---- at the end of any data
 

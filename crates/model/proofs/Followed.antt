@@ -207,7 +207,7 @@ module _ {number f k : ℕ} {ss : List Step} {wrote : ℕ → List Entry} (F : F
     last = λ {i} x y l c t. R .nothing-follows (here i x) (here i y) l (c, kinds {i = i} (record { at = x }) .1, t) refl;
     then-p = λ {i} {j} {p} {h} x y w c t. plain i j p (h .transaction) (prepares {i = i} (record { at = x }) (spot j y .1) w c t);
     apart = λ {i} {p} {q} {h} {g} x y l w v e d.
-      between i p q (h .transaction) g (record { at = y }) (R .key-kept (here i x) (here i y) l (kinds {i = i} (record { at = x }) .0, w, refl) (kinds {i = i} (record { at = y }) .0, v, refl) e d);
+        between i p q (h .transaction) g (record { at = y }) (R .key-kept (here i x) (here i y) l (kinds {i = i} (record { at = x }) .0, w, refl) (kinds {i = i} (record { at = y }) .0, v, refl) e d);
   }
     where
       here : (i : ℕ) {p : ℕ} {h : Held} → At h (L i) p → Stands f wrote i p h

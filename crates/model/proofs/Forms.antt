@@ -163,7 +163,7 @@ module _ (a : Account) where
     record-within h l =
         find-first i k (form a .records)
         ∙ ap firstOf (keeps-one (filter (both i k)) refl (filter-append (both i k)) rowOf f 0 i (omega arith) (omega arith) (λ j n. row-other j (λ l u. rw (ne-eqb j i n)))
-          ∙ keeps-one (filter (both i k)) refl (filter-append (both i k)) (λ l. shown i l (a .at i .records l)) (a .keys) 0 k (omega arith) (omega arith) (λ l n. shown-other i k i l (a .at i .records l) (rw (ne-eqb l k n) (and-false (eqb i i)))))
+        ∙ keeps-one (filter (both i k)) refl (filter-append (both i k)) (λ l. shown i l (a .at i .records l)) (a .keys) 0 k (omega arith) (omega arith) (λ l n. shown-other i k i l (a .at i .records l) (rw (ne-eqb l k n) (and-false (eqb i i)))))
         ∙ shown-back i k (a .at i .records k)
 
     record-outside : ((j l : ℕ) → j < f → l < a .keys → (eqb j i && eqb l k) ≡ false) → find i k (form a .records) ≡ absent
@@ -205,7 +205,7 @@ module _ {a : Account} where
   form-fits w =
       let o : all (λ s. ltb (a .closed) (s .epoch)) (form a .streams) ≡ true = all-of (λ i. a .at i .counters) (λ s. ltb (a .closed) (s .epoch)) (a .fragments) 0 (λ i l u. lt-ltb (a .closed) (a .at i .counters .epoch) (w .opened i (omega arith))) in
       let h : heldFits (a .keys) (a .closed) (form a .streams) [] (form a .held) ≡ true =
-        held-all a ∙ all-of (λ j. j) _ (a .fragments) 0 (λ i l u. let q : i < a .fragments = omega arith in rw (counters-back a i q) (w .streams i q)) in
+      held-all a ∙ all-of (λ j. j) _ (a .fragments) 0 (λ i l u. let q : i < a .fragments = omega arith in rw (counters-back a i q) (w .streams i q)) in
       rw (streams-length a, w .fits, held-length a, le-leb (heldCount a) 256 (w .room), o, records-all a (keys-small a (w .fits)), h)
 
   pub account-form : WellFormed a → account (form a) ≡ a

@@ -120,5 +120,5 @@ longest {a} w =
     let n = nth _ (w .fits) in
     let k : a .keys ≤ 128 = leb-true (a .keys) 128 (n 5) in
     let rows = upward-most (a .fragments) 0 128 (λ i. upward (a .keys) 0 (λ k. shown i k (a .at i .records k)))
-          (λ i. omega (arith, upward-most (a .keys) 0 1 (λ k. shown i k (a .at i .records k)) (λ k. shown-most i k (a .at i .records k)))) in
+    (λ i. omega (arith, upward-most (a .keys) 0 1 (λ k. shown i k (a .at i .records k)) (λ k. shown-most i k (a .at i .records k)))) in
     omega (arith, image-length a, w .room, leb-true (a .fragments) 8 (n 3))

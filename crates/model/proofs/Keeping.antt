@@ -59,10 +59,13 @@ taken-well-formed {a} e s d = record {
   where
     t : TakenFacts a e
     t = taken-facts a e d
+
     long : ℕ → ℕ
     long j = length (a .at j .held)
+
     open-now : ℕ → ℕ
     open-now j = a .at j .counters .epoch
+
     room : (m : Bool) → isMark e ≡ m → heldCount (taken e a) ≤ MOST-HELD
     room true q = omega (arith, s .room, sum-same long (λ j. length (taken e a .at j .held)) (a .fragments) (λ j l. same j (eqb (e .fragment) j)))
       where
@@ -73,10 +76,12 @@ taken-well-formed {a} e s d = record {
       where
         one : length (taken e a .at (e .fragment) .held) ≡ suc (length (a .at (e .fragment) .held))
         one = rw (eq-eqb (e .fragment) (e .fragment) refl, q) (omega (arith, length-append (a .at (e .fragment) .held) (hold e (open-now (e .fragment)) ∷ [])))
+
     opened : (j : ℕ) → j < a .fragments → (b m : Bool) → isMark e ≡ m → a .closed < (if b then take (a .at j) e else a .at j) .counters .epoch
     opened j l true true q = rw q (omega (arith, s .opened j l))
     opened j l true false q = rw q (s .opened j l)
     opened j l false m q = s .opened j l
+
     streams : (j : ℕ) → j < a .fragments → (b : Bool) → eqb (e .fragment) j ≡ b → (m : Bool) → isMark e ≡ m
         → streamFits (a .fragments) (a .keys) j (a .closed) ((if b then take (a .at j) e else a .at j) .counters .epoch) [] ((if b then take (a .at j) e else a .at j) .held) ≡ true
     streams j l true p true q = rw q (fits-raised (a .fragments) (a .keys) j (a .closed) (open-now j) [] (a .at j .held) (s .streams j l))
@@ -84,6 +89,7 @@ taken-well-formed {a} e s d = record {
         let z = eqb-true (e .fragment) j p in
         rw q (fits-held (a .fragments) (a .keys) j (a .closed) (open-now j) (a .at j .held) e (s .opened j l) (s .streams j l) (entry-fits t q j (open-now j) z) (rw z at (t .stage q)))
     streams j l false p m q = s .streams j l
+
     no-key : (j k : ℕ) → a .keys ≤ k → (b : Bool) → (if b then take (a .at j) e else a .at j) .records k ≡ absent
     no-key j k l true = s .no-key j k l
     no-key j k l false = s .no-key j k l
@@ -140,14 +146,16 @@ closed-well-formed {a} s d = record {
   where
     decided : ℕ → ℕ → Bool
     decided = committed (suc (a .closed)) (λ c. a .at c .held)
+
     no-fragment : (i : ℕ) → a .fragments ≤ i → close a .at i ≡ empty
     no-fragment i l = rw (s .no-fragment i l) (settle-empty (suc (a .closed)) decided)
+
     no-key : (i k : ℕ) → a .keys ≤ k → Dec (i < a .fragments) → close a .at i .records k ≡ absent
     no-key i k l (yes q) =
         rw (s .no-key i k l) (unchanged k absent _ _ (any-none (writesTo k) _ (λ g m w.
-          let y = in-filter (λ h. leb (h .epoch) (suc (a .closed))) (a .at i .held) m .0 in
-          let u = key-inside (a .fragments) (a .keys) i g (fits-in (a .fragments) (a .keys) i (a .closed) (a .at i .counters .epoch) (a .at i .held) (s .streams i q) y) (leb-true (g .kind) DELETE (and-l _ _ w)) in
-          omega (arith, eqb-true (key g) k (and-r (leb (g .kind) DELETE) _ w)))))
+        let y = in-filter (λ h. leb (h .epoch) (suc (a .closed))) (a .at i .held) m .0 in
+        let u = key-inside (a .fragments) (a .keys) i g (fits-in (a .fragments) (a .keys) i (a .closed) (a .at i .counters .epoch) (a .at i .held) (s .streams i q) y) (leb-true (g .kind) DELETE (and-l _ _ w)) in
+        omega (arith, eqb-true (key g) k (and-r (leb (g .kind) DELETE) _ w)))))
     no-key i k l (no q) = ap (λ r. r .records k) (no-fragment i (omega arith))
 
 -- ---- any run

@@ -281,8 +281,8 @@ module _ (f k i c o : ℕ) where
     retained kept before h x r et ee ek e = record {
       stages = λ t. stage-snoc t Unheard kept x ∙ rw (stage-snoc t Unheard before h, et, ek, r .stages t) (go t (eqb (h .transaction) t) refl);
       lower = λ m a.
-        let s = sym (all-snoc (λ g. leb (g .epoch) m) before h) ∙ a in
-        all-snoc (λ g. leb (g .epoch) m) kept x ∙ rw (ee, r .lower m (and-l _ _ s), and-r (all (λ g. leb (g .epoch) m) before) _ s);
+          let s = sym (all-snoc (λ g. leb (g .epoch) m) before h) ∙ a in
+          all-snoc (λ g. leb (g .epoch) m) kept x ∙ rw (ee, r .lower m (and-l _ _ s), and-r (all (λ g. leb (g .epoch) m) before) _ s);
     }
       where
         go : (t : ℕ) (b : Bool) → eqb (h .transaction) t ≡ b → (if b then stageAfter (h .kind) else shrunk (v t) (stage t before)) ≡ shrunk (v t) (if b then stageAfter (h .kind) else stage t before)
@@ -300,24 +300,33 @@ module _ (f k i c o : ℕ) where
       where
         s : Stage
         s = stage (h .transaction) before
+
         here : First before h hs
         here = first before h hs w
+
         x' : Facts (before ++ h ∷ []) hs
         x' = record { quiet = λ g m. x .quiet g (List·Memᴰ·tail m); due = λ t. due-step t before hs h (here .place .taken) (x .due t) }
+
         below : all (λ g. leb (g .epoch) (h .epoch)) kept ≡ true
         below = r .lower (h .epoch) (here .place .rises)
+
         Goal : List Held → Type 0
         Goal ys = streamFits f k i (suc c) o kept (ys ++ survivors (suc c) v hs) ≡ true
+
         put : (y : Held) → entryFits f k i y ≡ true → follows (suc c) o kept (stage (y .transaction) kept) y ≡ true → streamFits f k i (suc c) o (kept ++ y ∷ []) (survivors (suc c) v hs) ≡ true → Goal (y ∷ [])
         put y a b d = rw (a, b, d)
+
         not-before : (g : Held) → In g (h ∷ hs) → h .epoch ≤ g .epoch
         not-before g m =
             ⊎-elim (λ (e : g ≡ h). omega (arith, ap (λ r. r .epoch) e)) (λ (m : In g hs). let y = placed (before ++ h ∷ []) hs (here .rest) m in
             leb-true _ _ (all-in (λ b. leb (b .epoch) (g .epoch)) (y .place .rises) (y .all-before (Memᴰ·append-right before (List·Memᴰ·head refl))))) (List·Memᴰ·cases-cons m)
+
         arrived : (u : Verdict) → v (h .transaction) ≡ u → suc c < h .epoch → Still u s
         arrived u q l = still u s (h .kind) (⊎-elim (λ a. rw q at a) (λ y. absurd (omega (arith, y .early, not-before (y .entry) (y .among)))) (x .due (h .transaction))) (here .place .taken)
+
         calm-kind : calm (v (h .transaction)) ≡ true → leb (h .epoch) (suc c) ≡ true → h .kind < CC
         calm-kind a e = x .quiet h (List·Memᴰ·head refl) (leb-true (h .epoch) (suc c) e) a
+
         go : (b : Bool) → leb (h .epoch) (suc c) ≡ b → (u : Verdict) → v (h .transaction) ≡ u → ((kept' : List Held) → Kept kept' (before ++ h ∷ []) → streamFits f k i (suc c) o kept' (survivors (suc c) v hs) ≡ true)
             → Goal (if b then left u h else h ∷ [])
         go false e u q rest =
@@ -373,14 +382,19 @@ module _ (f k i c o : ℕ) where
       where
         x : (g : Held) × In g hs × (g .epoch ≤ suc c) × (is CP t g ≡ true)
         x = seen (is CP t) e
+
         y : Placed [] hs (x .0)
         y = placed [] hs w (x .1)
+
         prepared : isPrepared (stage t (y .earlier)) ≡ true
         prepared = takes-CP (stage t (y .earlier)) (rw (eqb-true (x .0 .kind) CP (and-l (eqb (x .0 .kind) CP) _ (x .3)), eqb-true (x .0 .transaction) t (and-r (eqb (x .0 .kind) CP) _ (x .3))) at (y .place .taken))
+
         p : (g : Held) × In g (y .earlier) × (is P t g ≡ true)
         p = any-out (is P t) (y .earlier) (prepared-has t Unheard (y .earlier) refl prepared)
+
         early : p .0 .epoch ≤ suc c
         early = omega (arith, x .2, leb-true (p .0 .epoch) (x .0 .epoch) (all-in (λ g. leb (g .epoch) (x .0 .epoch)) (y .place .rises) (p .1)))
+
         go : (b : Bool) → p .0 .flagged ≡ b → (any (unflaggedP t) es ≡ true) ⊎ (any (flaggedP t) es ≡ true)
         go true b = inr (looked-at (flaggedP t) (y .all-there (p .1)) early (rw (p .2, b)))
         go false b = inl (looked-at (unflaggedP t) (y .all-there (p .1)) early (rw (p .2, b)))
@@ -404,14 +418,18 @@ module _ (f k i c o : ℕ) where
       where
         n : (any (is A (g .transaction)) es ≡ false) × (any (is CC (g .transaction)) es ≡ false) × (any (is CP (g .transaction)) es ≡ false)
         n = no-end (g .transaction) q
+
         small : g .kind ≤ A
         small = leb-true (g .kind) A (nth _ (fits-in hs w m) 0)
+
         one : (kd : ℕ) → g .kind ≡ kd → any (is kd (g .transaction)) es ≡ true
         one kd e = looked-at (is kd (g .transaction)) m l (rw (eq-eqb (g .kind) kd e, eq-eqb (g .transaction) (g .transaction) refl))
+
         which : (g .kind < CC → ⊥) → Dec (g .kind ≡ CC) → Dec (g .kind ≡ CP) → g .kind < CC
         which z (yes a) b = no-way (sym (n .1) ∙ one CC a)
         which z (no a) (yes b) = no-way (sym (n .2) ∙ one CP b)
         which z (no a) (no b) = no-way (sym (n .0) ∙ one A (omega (arith, small)))
+
         go : Dec (g .kind < CC) → g .kind < CC
         go (yes y) = y
         go (no z) = which z (ℕ-discrete (g .kind) CC) (ℕ-discrete (g .kind) CP)
@@ -422,6 +440,7 @@ module _ (f k i c o : ℕ) where
       where
         ended : (kd : ℕ) → CC ≤ kd → any (is kd t) es ≡ true → Has CC t hs
         ended kd l = found CC kd t l (λ h z. z)
+
         go : (a b e q : Bool) → any (is A t) es ≡ a → (any (is CC t) es || any (is CP t) es && any (unflaggedP t) es) ≡ b → (any (is CP t) es && any (flaggedP t) es) ≡ e → any (λ h. unflaggedP t h && d (coordinator h) t) es ≡ q
             → (reached (if a then free else if b then install else if e then free else if q then flag else stay) (stage t []) ≡ true) ⊎ Has (least (if a then free else if b then install else if e then free else if q then flag else stay)) t hs
         go true b e q ea eb ee eq = inr (ended A (omega arith) ea)

@@ -169,7 +169,7 @@ module _ (a : Account) (z : a .closed ≡ 0) (K : Kept (streams a)) (O : Ordered
     verdict-end {j} {g} {e} x c q y l t (inr p) =
         let u = O .after-p (in-at y .1) p in
         let w : any (unflaggedP (g .transaction)) (upto n (streams a i)) ≡ true =
-            upto-some (unflaggedP (g .transaction)) n (at-in (u .3)) (omega (arith, K .intime (at-in (u .3)) x (u .4) c (u .5 ∙ t))) (and (to-is (u .1) (u .4) (u .5 ∙ t)) (ap not (K .fresh (at-in (u .3))))) in
+        upto-some (unflaggedP (g .transaction)) n (at-in (u .3)) (omega (arith, K .intime (at-in (u .3)) x (u .4) c (u .5 ∙ t))) (and (to-is (u .1) (u .4) (u .5 ∙ t)) (ap not (K .fresh (at-in (u .3))))) in
         rw (no-abort (streams a) K x c n i, upto-some (is CP (g .transaction)) n y l (to-is e p t), w, or-true (any (is CC (g .transaction)) (upto n (streams a i))))
 
     -- any, and one that is flagged by the same close

@@ -148,19 +148,19 @@ module _ (f : ℕ) (wrote : ℕ → List Entry) (coordinatorOf : ℕ → ℕ) wh
     coordinator-commits = λ {i} {p} {t} {h} x k. eqb-true i _ (holds _ (one-of t1 (n 0) x) (eq-eqb (h .kind) CC (k .0) ⊕ nil)) ∙ ap coordinatorOf (k .1);
     prepare-names = λ {i} {p} {t} {h} x k. eqb-true (coordinator h) _ (holds _ (one-of t2 (n 1) x) (eq-eqb (h .kind) P (k .0) ⊕ nil)) ∙ ap coordinatorOf (k .1);
     one-prepare = λ {i} {p} {q} {t} {h} {g} x y l k m.
-      no-way (holds _ (two-of t3 (n 2) x y) (eq-eqb i i refl ⊕ lt-ltb p q l ⊕ eq-eqb (h .kind) P (k .0) ⊕ eq-eqb (g .kind) P (m .0) ⊕ same h g t (k .1) (m .1) ⊕ nil));
+        no-way (holds _ (two-of t3 (n 2) x y) (eq-eqb i i refl ⊕ lt-ltb p q l ⊕ eq-eqb (h .kind) P (k .0) ⊕ eq-eqb (g .kind) P (m .0) ⊕ same h g t (k .1) (m .1) ⊕ nil));
     nothing-follows = λ {i} {p} {q} {t} {h} {g} x y l k m.
-      no-way (holds _ (two-of t4 (n 3) x y) (eq-eqb i i refl ⊕ lt-ltb p q l ⊕ le-leb CC (h .kind) (k .0) ⊕ le-leb (h .kind) A (k .1) ⊕ same h g t (k .2) m ⊕ nil));
+        no-way (holds _ (two-of t4 (n 3) x y) (eq-eqb i i refl ⊕ lt-ltb p q l ⊕ le-leb CC (h .kind) (k .0) ⊕ le-leb (h .kind) A (k .1) ⊕ same h g t (k .2) m ⊕ nil));
     prepared-after = λ {i} {j} {p} {c} {t} {h} {g} y k x m d.
-      after i p t h (m .2) (there-is wrote f f _ (omega arith) (holds _ (two-of t5 (n 4) y x) (eq-eqb (g .kind) CC (k .0) ⊕ le-leb PUT (h .kind) (m .0) ⊕ le-leb (h .kind) DELETE (m .1) ⊕ same g h t (k .1) (m .2) ⊕ differ d ⊕ nil)));
+        after i p t h (m .2) (there-is wrote f f _ (omega arith) (holds _ (two-of t5 (n 4) y x) (eq-eqb (g .kind) CC (k .0) ⊕ le-leb PUT (h .kind) (m .0) ⊕ le-leb (h .kind) DELETE (m .1) ⊕ same g h t (k .1) (m .2) ⊕ differ d ⊕ nil)));
     prepared-by = λ {i} {j} {p} {c} {t} {h} {g} y k x m.
-      leb-true (h .epoch) (g .epoch) (holds _ (two-of t6 (n 5) y x) (eq-eqb (g .kind) CC (k .0) ⊕ eq-eqb (h .kind) P (m .0) ⊕ same g h t (k .1) (m .1) ⊕ nil));
+        leb-true (h .epoch) (g .epoch) (holds _ (two-of t6 (n 5) y x) (eq-eqb (g .kind) CC (k .0) ⊕ eq-eqb (h .kind) P (m .0) ⊕ same g h t (k .1) (m .1) ⊕ nil));
     commit-decided = λ {i} {p} {t} {h} x k. decided t h (k .1) (there-is wrote f f _ (omega arith) (holds _ (one-of t7 (n 6) x) (eq-eqb (h .kind) CP (k .0) ⊕ nil)));
     never-both = λ {i} {j} {p} {c} {t} {h} {g} y k x m.
-      no-way (holds _ (two-of t8 (n 7) y x) (eq-eqb (g .kind) CC (k .0) ⊕ eq-eqb (h .kind) A (m .0) ⊕ same g h t (k .1) (m .1) ⊕ nil));
+        no-way (holds _ (two-of t8 (n 7) y x) (eq-eqb (g .kind) CC (k .0) ⊕ eq-eqb (h .kind) A (m .0) ⊕ same g h t (k .1) (m .1) ⊕ nil));
     key-kept = λ {i} {p} {q} {t} {u} {h} {g} x y l k m e d.
-      between i p q t h (k .2) (there-is wrote f f _ (omega arith) (holds _ (two-of t9 (n 8) x y)
-      (eq-eqb i i refl ⊕ lt-ltb p q l ⊕ le-leb PUT (h .kind) (k .0) ⊕ le-leb (h .kind) DELETE (k .1) ⊕ le-leb PUT (g .kind) (m .0) ⊕ le-leb (g .kind) DELETE (m .1) ⊕ eq-eqb (key h) (key g) e ⊕ differ (λ s. d (sym (k .2) ∙ s ∙ m .2)) ⊕ nil)));
+        between i p q t h (k .2) (there-is wrote f f _ (omega arith) (holds _ (two-of t9 (n 8) x y)
+        (eq-eqb i i refl ⊕ lt-ltb p q l ⊕ le-leb PUT (h .kind) (k .0) ⊕ le-leb (h .kind) DELETE (k .1) ⊕ le-leb PUT (g .kind) (m .0) ⊕ le-leb (g .kind) DELETE (m .1) ⊕ eq-eqb (key h) (key g) e ⊕ differ (λ s. d (sym (k .2) ∙ s ∙ m .2)) ⊕ nil)));
   }
     where
       n : (i : ℕ) → getD (forAll wrote f t1 ∷ forAll wrote f t2 ∷ pairs t3 ∷ pairs t4 ∷ pairs t5 ∷ pairs t6 ∷ forAll wrote f t7 ∷ pairs t8 ∷ pairs t9 ∷ []) i true ≡ true

@@ -44,9 +44,11 @@ module _ (k c : ℕ) (ss : List Counters) where
   unfolding heldFits itemFits entryFits inAccount Rising
   held-rising m before [] f w = tt
   held-rising m before (e ∷ es) f w =
-      let n = nth _ (and-l (itemFits k c ss before e) _ w) in
-      (f e (n 0), ltb-true (e .stream) (length ss) (nth _ (nth _ (n 1) 2) 0),
-        held-rising (e .stream) (before ++ e ∷ []) es (λ g a. leb-true (e .stream) (g .stream) (and-r (all (λ d. leb (d .stream) (g .stream)) before) _ (sym (all-snoc (λ d. leb (d .stream) (g .stream)) before e) ∙ a))) (and-r (itemFits k c ss before e) _ w))
+      let n = nth _ (and-l (itemFits k c ss before e) _ w) in (
+        f e (n 0),
+        ltb-true (e .stream) (length ss) (nth _ (nth _ (n 1) 2) 0),
+        held-rising (e .stream) (before ++ e ∷ []) es (λ g a. leb-true (e .stream) (g .stream) (and-r (all (λ d. leb (d .stream) (g .stream)) before) _ (sym (all-snoc (λ d. leb (d .stream) (g .stream)) before e) ∙ a))) (and-r (itemFits k c ss before e) _ w),
+      )
 
 -- ---- records
 
@@ -83,6 +85,7 @@ module _ (f keys : ℕ) (small : keys ≤ 128) where
       where
         h : Head least r rs
         h = head least r rs w
+
         go : (b : Bool) → eqb (r .fragment) i ≡ b → ((n : ℕ) → ((k : ℕ) → suc (place r) ≤ 128 * i + k → n ≤ k) → recordsFit f keys (suc (place r)) rs ≡ true → Rising (λ r. r .key) n keys (row rs))
             → Rising (λ r. r .key) m keys (if b then r ∷ row rs else row rs)
         go true e ih = let z = eqb-true (r .fragment) i e in (l (r .key) (omega (arith, h .later)), h .keyed, ih (r .key) (λ k u. omega arith) (h .rest))
@@ -99,6 +102,7 @@ module _ (f keys : ℕ) (small : keys ≤ 128) where
         where
           h : Head least r rs
           h = head least r rs w
+
           go : (b : Bool) → both i k r ≡ b → filter (both i k) rs ≡ [] → (if b then r ∷ filter (both i k) rs else filter (both i k) rs) ≡ []
           go true e ih = absurd (omega (arith, h .later, here r e .0, here r e .1))
           go false e ih = ih
@@ -110,6 +114,7 @@ module _ (f keys : ℕ) (small : keys ≤ 128) where
         where
           h : Head least r rs
           h = head least r rs w
+
           go : (b : Bool) → both i k r ≡ b → shown i k (find i k rs) ≡ filter (both i k) rs
               → shown i k (if b then present (r .value) else find i k rs) ≡ (if b then r ∷ filter (both i k) rs else filter (both i k) rs)
           go true e ih =

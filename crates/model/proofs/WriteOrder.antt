@@ -137,4 +137,3 @@ apply-all k hs es y D (t ∷ ts) own clear ps =
     next x u m true i d j e = clear x u i (List·Memᴰ·tail m)
     next x u m false i true j e = rw (eqb-true x t j) (ps .0 u m)
     next x u m false i false j e = no-way e
-

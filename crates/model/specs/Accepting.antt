@@ -19,15 +19,15 @@ entryFits f k i h = every (leb (h .kind) A ∷ fieldsFit (h .kind) (h .transacti
 unfoldable pub follows : ℕ → ℕ → List Held → Stage → Held → Bool
 follows c o hs s h =
     every (
-      -- held epochs from 1 to the stream's open epoch, not falling within a stream
-      leb 1 (h .epoch) ∷ leb (h .epoch) o ∷ all (λ g. leb (g .epoch) (h .epoch)) hs
-      -- each transaction's entries in the order of the table
-      ∷ takes (h .kind) s
-      -- every end entry later than the closed epoch
-      ∷ (ltb (h .kind) CC || ltb c (h .epoch))
-      -- a flag only on P, of an epoch already closed, with no writes held
-      ∷ (not (h .flagged) || eqb (h .kind) P && leb (h .epoch) c && isUnheard s)
-      ∷ []
+    -- held epochs from 1 to the stream's open epoch, not falling within a stream
+    leb 1 (h .epoch) ∷ leb (h .epoch) o ∷ all (λ g. leb (g .epoch) (h .epoch)) hs
+    -- each transaction's entries in the order of the table
+    ∷ takes (h .kind) s
+    -- every end entry later than the closed epoch
+    ∷ (ltb (h .kind) CC || ltb c (h .epoch))
+    -- a flag only on P, of an epoch already closed, with no writes held
+    ∷ (not (h .flagged) || eqb (h .kind) P && leb (h .epoch) c && isUnheard s)
+    ∷ []
     )
 
 -- the entries of one stream, each after those before it

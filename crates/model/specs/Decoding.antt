@@ -86,10 +86,10 @@ module _ (k c : ℕ) (ss : List Counters) where
   itemFits before e =
       let hs = mine (e .stream) before in
       every (
-        all (λ g. leb (g .stream) (e .stream)) before
-        ∷ entryFits (length ss) k (e .stream) (e .entry)
-        ∷ follows c (countersAt ss (e .stream) .epoch) hs (stage (e .entry .transaction) hs) (e .entry)
-        ∷ []
+      all (λ g. leb (g .stream) (e .stream)) before
+      ∷ entryFits (length ss) k (e .stream) (e .entry)
+      ∷ follows c (countersAt ss (e .stream) .epoch) hs (stage (e .entry .transaction) hs) (e .entry)
+      ∷ []
       )
 
   unfoldable pub heldFits : List Item → List Item → Bool
@@ -108,12 +108,12 @@ unfoldable pub formFits : Form → Bool
 formFits x =
     let f = length (x .streams) in
     every (
-      accountFits (x .number) f (x .keys)
-      ∷ leb (length (x .held)) MOST-HELD
-      ∷ all (λ s. ltb (x .closed) (s .epoch)) (x .streams)
-      ∷ recordsFit f (x .keys) 0 (x .records)
-      ∷ heldFits (x .keys) (x .closed) (x .streams) [] (x .held)
-      ∷ []
+    accountFits (x .number) f (x .keys)
+    ∷ leb (length (x .held)) MOST-HELD
+    ∷ all (λ s. ltb (x .closed) (s .epoch)) (x .streams)
+    ∷ recordsFit f (x .keys) 0 (x .records)
+    ∷ heldFits (x .keys) (x .closed) (x .streams) [] (x .held)
+    ∷ []
     )
 
 unfoldable pub same : List ℕ → List ℕ → Bool

@@ -60,12 +60,12 @@ isMark e = eqb (e .kind) MARK
 unfoldable pub fieldsFit : ℕ → ℕ → ℕ → ℕ → Bool
 fieldsFit kind transaction argument value =
     every (
-      leb PUT kind ∷ leb kind MARK
-      ∷ (leb kind P || eqb argument 0)
-      ∷ (eqb kind PUT || eqb value 0)
-      ∷ leb 1 transaction
-      ∷ (not (eqb kind MARK) || leb transaction LAST-MARK)
-      ∷ []
+    leb PUT kind ∷ leb kind MARK
+    ∷ (leb kind P || eqb argument 0)
+    ∷ (eqb kind PUT || eqb value 0)
+    ∷ leb 1 transaction
+    ∷ (not (eqb kind MARK) || leb transaction LAST-MARK)
+    ∷ []
     )
 
 unfoldable pub fits : Entry → Bool
@@ -76,11 +76,11 @@ fits e = eqb (e .spare) 0 && fieldsFit (e .kind) (e .transaction) (e .argument) 
 unfoldable pub inAccount : ℕ → ℕ → ℕ → ℕ → ℕ → Bool
 inAccount f k kind fragment argument =
     every (
-      ltb fragment f
-      ∷ (ltb DELETE kind || ltb argument k)
-      ∷ (not (eqb kind P) || ltb argument f)
-      ∷ (not (eqb kind P) || not (eqb argument fragment))
-      ∷ []
+    ltb fragment f
+    ∷ (ltb DELETE kind || ltb argument k)
+    ∷ (not (eqb kind P) || ltb argument f)
+    ∷ (not (eqb kind P) || not (eqb argument fragment))
+    ∷ []
     )
 
 unfoldable pub inside : ℕ → ℕ → Entry → Bool
