@@ -1,9 +1,9 @@
 -- Laws of tests on Bools and lists. Assumes nothing.
 use Prim.Native.Nat.{ℕ, zero, suc, _≤_, _<_}
 use mathlib.Core.Path.{_≡_, refl, sym, ap, _∙_, fun-ext}
-use mathlib.Core.Logic.{_⊎_, inl, inr}
-use mathlib.Core.Bool.{Bool, true, false, not, _&&_, _||_, and-true, and-assoc}
-use mathlib.Core.List.{List, [], _∷_, _++_, map, List·Memᴰ, List·Memᴰ·head, List·Memᴰ·tail}
+use mathlib.Core.Logic.{_⊎_, inl, inr, ⊎-elim}
+use mathlib.Core.Bool.{Bool, true, false, not, _&&_, _||_, and-true, and-assoc, or-assoc, or-true}
+use mathlib.Core.List.{List, [], _∷_, _++_, map, List·Memᴰ, List·Memᴰ·head, List·Memᴰ·tail, List·Memᴰ·cases-cons, List·Memᴰ·not-nil}
 use native.Mathlib.Omega.{arith}
 use lib.ListN.{getD}
 use Rattle.model.specs.Lists.{if_then_else_, filter, any, all, every}
@@ -40,10 +40,6 @@ pub if-ap : {X Y : Type 0} (f : X → Y) (b : Bool) (x y : X) → f (if b then x
 if-ap f true x y = refl
 if-ap f false x y = refl
 
-pub ||-assoc : (a b c : Bool) → (a || b || c) ≡ (a || (b || c))
-||-assoc true b c = refl
-||-assoc false b c = refl
-
 -- ---- a list of conditions
 
 -- condition i, from 0
@@ -69,7 +65,7 @@ module _ {X : Type 0} where
   pub any-append : (p : X → Bool) (xs ys : List X) → any p (xs ++ ys) ≡ (any p xs || any p ys)
   unfolding any
   any-append p [] ys = refl
-  any-append p (x ∷ xs) ys = rw (any-append p xs ys) (sym (||-assoc (p x) (any p xs) (any p ys)))
+  any-append p (x ∷ xs) ys = rw (any-append p xs ys) (sym (or-assoc (p x) (any p xs) (any p ys)))
 
   pub filter-append : (p : X → Bool) (xs ys : List X) → filter p (xs ++ ys) ≡ filter p xs ++ filter p ys
   unfolding filter
@@ -93,11 +89,7 @@ module _ {X : Type 0} where
   pub any-in : (p : X → Bool) {x : X} {xs : List X} → List·Memᴰ x xs → p x ≡ true → any p xs ≡ true
   unfolding any
   any-in p (List·Memᴰ·head {x = y} e) t = rw (← e, t)
-  any-in p (List·Memᴰ·tail {x = y} m) t = rw (any-in p m t) (go (p y))
-    where
-      go : (b : Bool) → (b || true) ≡ true
-      go true = refl
-      go false = refl
+  any-in p (List·Memᴰ·tail {x = y} m) t = rw (any-in p m t) (or-true (p y))
 
   pub any-out : (p : X → Bool) (xs : List X) → any p xs ≡ true → (x : X) × List·Memᴰ x xs × (p x ≡ true)
   unfolding any
@@ -115,10 +107,37 @@ module _ {X : Type 0} where
       go true e = let r = any-out p xs e in absurd (n (r .0) (r .1) (r .2))
       go false e = e
 
+  pub all-append : (p : X → Bool) (xs ys : List X) → all p (xs ++ ys) ≡ (all p xs && all p ys)
+  unfolding all
+  all-append p [] ys = refl
+  all-append p (x ∷ xs) ys = rw (all-append p xs ys) (sym (and-assoc (p x) (all p xs) (all p ys)))
+
   pub all-snoc : (p : X → Bool) (xs : List X) (x : X) → all p (xs ++ x ∷ []) ≡ (all p xs && p x)
   unfolding all
-  all-snoc p [] x = and-true (p x)
-  all-snoc p (y ∷ xs) x = rw (all-snoc p xs x) (sym (and-assoc (p y) (all p xs) (p x)))
+  all-snoc p xs x = all-append p xs (x ∷ []) ∙ rw (and-true (p x))
+
+  pub all-in : (p : X → Bool) {x : X} {xs : List X} → all p xs ≡ true → List·Memᴰ x xs → p x ≡ true
+  unfolding all
+  all-in p a (List·Memᴰ·head {x = y} e) = rw e (and-l (p y) _ a)
+  all-in p a (List·Memᴰ·tail {x = y} m) = all-in p (and-r (p y) _ a) m
+
+  pub filter-in : (p : X → Bool) {x : X} {xs : List X} → List·Memᴰ x xs → p x ≡ true → List·Memᴰ x (filter p xs)
+  unfolding filter
+  filter-in p (List·Memᴰ·head e) t = rw (← e, t) (List·Memᴰ·head refl)
+  filter-in p {x} (List·Memᴰ·tail {x = y} {xs = xs} m) t = go (p y) (filter-in p m t)
+    where
+      go : (b : Bool) → List·Memᴰ x (filter p xs) → List·Memᴰ x (if b then y ∷ filter p xs else filter p xs)
+      go true r = List·Memᴰ·tail r
+      go false r = r
+
+  pub in-filter : (p : X → Bool) {x : X} (xs : List X) → List·Memᴰ x (filter p xs) → List·Memᴰ x xs × (p x ≡ true)
+  unfolding filter
+  in-filter p [] m = absurd (List·Memᴰ·not-nil m)
+  in-filter p {x} (y ∷ ys) m = go (p y) refl m (in-filter p ys)
+    where
+      go : (b : Bool) → p y ≡ b → List·Memᴰ x (if b then y ∷ filter p ys else filter p ys) → (List·Memᴰ x (filter p ys) → List·Memᴰ x ys × (p x ≡ true)) → List·Memᴰ x (y ∷ ys) × (p x ≡ true)
+      go true e m ih = ⊎-elim (λ z. (List·Memᴰ·head z, rw z e)) (λ z. let r = ih z in (List·Memᴰ·tail (r .0), r .1)) (List·Memᴰ·cases-cons m)
+      go false e m ih = let r = ih m in (List·Memᴰ·tail (r .0), r .1)
 
   pub filter-filter : (p q : X → Bool) (xs : List X) → filter p (filter q xs) ≡ filter (λ x. q x && p x) xs
   unfolding filter
@@ -129,7 +148,12 @@ module _ {X : Type 0} where
       go true ih = rw ih
       go false ih = ih
 
-  pub all-append : (p : X → Bool) (xs ys : List X) → all p (xs ++ ys) ≡ (all p xs && all p ys)
-  unfolding all
-  all-append p [] ys = refl
-  all-append p (x ∷ xs) ys = rw (all-append p xs ys) (sym (and-assoc (p x) (all p xs) (all p ys)))
+pub every-append : (xs ys : List Bool) → every (xs ++ ys) ≡ (every xs && every ys)
+unfolding every
+every-append [] ys = refl
+every-append (x ∷ xs) ys = rw (every-append xs ys) (sym (and-assoc x (every xs) (every ys)))
+
+pub all-weaken : {X : Type 0} (p q : X → Bool) → ((x : X) → p x ≡ true → q x ≡ true) → (xs : List X) → all p xs ≡ true → all q xs ≡ true
+unfolding all
+all-weaken p q f [] a = a
+all-weaken p q f (x ∷ xs) a = and (f x (and-l (p x) _ a)) (all-weaken p q f xs (and-r (p x) _ a))

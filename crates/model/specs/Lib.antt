@@ -11,3 +11,4 @@ pub mod Decoding
 pub mod Answers
 pub mod Runs
 pub mod Rules
+pub mod Installed

@@ -5,7 +5,7 @@ use mathlib.Core.Logic.{_≢_}
 use mathlib.Core.Bool.{Bool, true, false}
 use mathlib.Core.List.{List, [], _∷_, _++_}
 use Rattle.model.specs.Lists.{if_then_else_}
-use Rattle.model.specs.Entry.{isMark, DELETE, P, CC, CP, A}
+use Rattle.model.specs.Entry.{isMark, PUT, DELETE, P, CC, CP, A}
 use Rattle.model.specs.Account.{Held, key, coordinator}
 use Rattle.model.specs.Taking.{hold}
 use Rattle.model.specs.declared.Entry.{Entry}
@@ -32,15 +32,15 @@ module _ (f : ℕ) (wrote : ℕ → List Entry) where
     pub fragment : i < f
     pub at : At h (inEpochs 1 (wrote i)) p
 
-  -- h is of kind k and of transaction t; h writes for t; h is an end entry of t
+  -- h is of kind k and of transaction t; h is a put or a delete of t; h is CC, CP or A of t
   abbrev pub Is : ℕ → ℕ → Held → Type 0
   Is k t h = (h .kind ≡ k) × (h .transaction ≡ t)
 
   abbrev pub Writes : ℕ → Held → Type 0
-  Writes t h = (h .kind ≤ DELETE) × (h .transaction ≡ t)
+  Writes t h = (PUT ≤ h .kind) × (h .kind ≤ DELETE) × (h .transaction ≡ t)
 
   abbrev pub Ends : ℕ → Held → Type 0
-  Ends t h = (CC ≤ h .kind) × (h .transaction ≡ t)
+  Ends t h = (CC ≤ h .kind) × (h .kind ≤ A) × (h .transaction ≡ t)
 
   pub record LogRules : Type 0 where
     -- 1. A transaction number serves one transaction of the account, with one coordinator.
