@@ -36,6 +36,7 @@ module _ (k c : ℕ) (ss : List Counters) (h : List ℕ) where
     where
       both : (sectionFits k c ss n h && placeFits k c ss h n) ≡ true
       both = sym (section-more k c ss h n) ∙ ap (λ m. sectionFits k c ss m h) (add-one n) ∙ w
+
       go : Dec (i < n) → (i < n → placeFits k c ss h i ≡ true) → placeFits k c ss h i ≡ true
       go (yes u) ih = ih u
       go (no u) ih = let e : i ≡ n = omega arith in rw e (and-r (sectionFits k c ss n h) _ both)

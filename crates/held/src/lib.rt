@@ -1,4 +1,4 @@
-// The test of a held section, in time linear in its places: load and a lot's damage test share it.
+// The test of a held section, in one pass over its places: load and the damage test of a lot share it.
 // It stands on `wire`, `model`, `entry` and `lookback`.
 ghost use mathlib.Core.Path.{_≡_};
 ghost use mathlib.Core.List.{[]};
@@ -108,7 +108,15 @@ pub fn open_epoch(streams: &[u8], fragments: u8, stream: u8) -> u32
 }
 
 // A place fits; `last` is what looking back from it finds.
-fn place_fits(streams: &[u8], held: &[u8], fragments: u8, keys: u16, closed: u32, last: u16, i: usize) -> bool
+fn place_fits(
+    streams: &[u8],
+    held: &[u8],
+    fragments: u8,
+    keys: u16,
+    closed: u32,
+    last: u16,
+    i: usize,
+) -> bool
     requires { ⌜ (fragments * 8 ≤ length (now streams)) × (i * 20 + 20 ≤ length (now held)) × (last ≡ lastBefore (now held) i) ⌝ }
     ensures { λ r. ⌜ r ≡ placeFits keys closed (parse fragments 8 countersOf (now (streams .entry))) (now (held .entry)) i ⌝ }
 {
@@ -121,7 +129,14 @@ fn place_fits(streams: &[u8], held: &[u8], fragments: u8, keys: u16, closed: u32
 }
 
 // The first n places fit the streams, whose counters stand 8 bytes apart.
-pub fn section_fits(streams: &[u8], held: &[u8], fragments: u8, keys: u16, closed: u32, n: usize) -> bool
+pub fn section_fits(
+    streams: &[u8],
+    held: &[u8],
+    fragments: u8,
+    keys: u16,
+    closed: u32,
+    n: usize,
+) -> bool
     requires { ⌜ (fragments * 8 ≤ length (now streams)) × (n ≤ 256) × (n * 20 ≤ length (now held)) ⌝ }
     ensures { λ r. ⌜ r ≡ sectionFits keys closed (parse fragments 8 countersOf (now (streams .entry))) n (now (held .entry)) ⌝ }
 {

@@ -44,8 +44,17 @@ returns c =
     let d = c .before .before .before in
     let s = d .before .before .before .before .before .before in
     together (d .plain-place .result) (c .before .before .in-order .result) (c .before .entry-fits .result) (c .in-turn .result)
-    ∙ rw (c .in-turn .ensures, c .before .entry-fits .ensures, c .before .before .in-order .ensures, d .plain-place .ensures, d .before .stage-at .ensures, d .before .before .open-epoch .ensures, d .before .before .before .stream-at .ensures,
-      s .pre .2, length-parse 8 countersOf (s .args .fragments) (now (s .args .streams)))
+    ∙ rw (
+      c .in-turn .ensures,
+      c .before .entry-fits .ensures,
+      c .before .before .in-order .ensures,
+      d .plain-place .ensures,
+      d .before .stage-at .ensures,
+      d .before .before .open-epoch .ensures,
+      d .before .before .before .stream-at .ensures,
+      s .pre .2,
+      length-parse 8 countersOf (s .args .fragments) (now (s .args .streams)),
+    )
 
 pub place-fits-spec : {M : Type 1} → statement M
 place-fits-spec =
