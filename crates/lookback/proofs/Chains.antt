@@ -12,7 +12,7 @@ use lib.ListN.{length, getD, set, replicate, getD-replicate, length-set}
 use lib.Seq.{getD-set-same, getD-set-other}
 use Rattle.model.specs.Lists.{if_then_else_}
 use Rattle.model.proofs.Tests.{and-l, and-r}
-use Rattle.lookback.specs.Places.{itemAt}
+use Rattle.model.specs.Section.{itemAt}
 use Rattle.lookback.specs.Last.{lastWith, isOf, Lasts, bucketOf, bucketAt, inBucket, Chained, Ready}
 
 -- ---- the last number that passes

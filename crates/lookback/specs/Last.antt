@@ -6,7 +6,7 @@ use mathlib.Core.List.{List}
 use lib.Dec.{eqb}
 use lib.ListN.{length, getD}
 use Rattle.model.specs.Lists.{if_then_else_}
-use Rattle.lookback.specs.Places.{itemAt}
+use Rattle.model.specs.Section.{itemAt}
 
 -- one more than the last number below n that passes the test, or 0
 unfoldable pub lastWith : (ℕ → Bool) → ℕ → ℕ

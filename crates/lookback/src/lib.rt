@@ -5,7 +5,8 @@ ghost use Prim.Native.Nat.{_+_, _≤_, _<_, _*_};
 ghost use lib.ListN.{length};
 ghost use Rattle.model.specs.Decoding.{mine};
 ghost use Rattle.model.specs.Stages.{stage};
-ghost use Rattle.lookback.specs.Places.{itemAt, items, stageAt};
+ghost use Rattle.model.specs.Section.{itemAt, items};
+ghost use Rattle.lookback.specs.Places.{stageAt};
 ghost use Rattle.lookback.specs.Last.{lastWith, isOf, Lasts, bucketOf, Ready};
 use model::Stage;
 
@@ -113,7 +114,8 @@ fn last_chained(held: &[u8], next: &[u16; 256], start: u16, fragment: u8, transa
     0
 }
 
-// For each of n places the last one before it of its stream and transaction, in time linear in n.
+// For each of n places the last one before it of its stream and transaction, in one pass: a place goes back along its
+// bucket, so the time grows with n alone unless many transactions share a bucket.
 pub fn lasts(held: &[u8], n: usize) -> [u16; 256]
     requires { ⌜ (n ≤ 256) × (n * 20 ≤ length (now held)) ⌝ }
     ensures { λ r. ⌜ Lasts r (now (held .entry)) n ⌝ }

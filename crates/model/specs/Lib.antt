@@ -8,6 +8,7 @@ pub mod Closing
 pub mod Image
 pub mod Accepting
 pub mod Decoding
+pub mod Section
 pub mod Answers
 pub mod Runs
 pub mod Rules

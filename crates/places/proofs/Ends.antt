@@ -13,7 +13,8 @@ use borrow.Author.Tests.{le-leb, lt-leb, lt-ltb, leb-true, leb-false}
 use Rattle.model.specs.Lists.{if_then_else_, all}
 use Rattle.model.specs.Image.{Item}
 use Rattle.model.specs.Decoding.{itemOf, parse}
-use Rattle.places.specs.Places.{items, endOf}
+use Rattle.model.specs.Section.{items}
+use Rattle.places.specs.Places.{endOf}
 
 -- the stream of place j
 abbrev streamAt : List ℕ → ℕ → ℕ

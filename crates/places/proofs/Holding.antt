@@ -17,7 +17,8 @@ use Rattle.model.proofs.Tests.{and-l, and-r}
 use Rattle.model.proofs.Buckets.{Rising}
 use Rattle.model.proofs.Forms.{mine-append}
 use Rattle.model.proofs.ByStream.{Sorted, StreamsFit, held-fits, held-sorted}
-use Rattle.places.specs.Places.{items, endOf, heldItem, EntryHeld}
+use Rattle.model.specs.Section.{items}
+use Rattle.places.specs.Places.{endOf, heldItem, EntryHeld}
 use Rattle.places.proofs.Sections.{parse-split}
 use Rattle.places.proofs.Ends.{end-within, lastStream, before-end, from-end}
 

@@ -17,7 +17,8 @@ use Rattle.model.specs.Taking.{hold}
 use Rattle.model.specs.Decoding.{itemOf, parse}
 use Rattle.model.proofs.Tests.{and-l, and-r, every-append}
 use Rattle.places.specs.Moves.{inserted}
-use Rattle.places.specs.Places.{plainPlace, endOf, heldItem, EntryHeld}
+use Rattle.model.specs.Section.{plainPlace}
+use Rattle.places.specs.Places.{endOf, heldItem, EntryHeld}
 use Rattle.places.proofs.Sections.{parse-split, insert-parts}
 
 item-reads : (l m : List ℕ) → Same l m 0 20 → itemOf l ≡ itemOf m

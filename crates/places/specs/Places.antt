@@ -1,26 +1,15 @@
--- The places of a held section, the end of a stream's entries among them, and an entry put in there.
+-- The end of a stream's entries among them, and an entry put in there.
 use Prim.Native.Nat.{ℕ, zero, suc, _+_, _*_, _-_}
 use mathlib.Core.Path.{_≡_}
-use mathlib.Core.Bool.{Bool, true}
+use mathlib.Core.Bool.{true}
 use mathlib.Core.List.{List, [], _∷_, _++_}
-use lib.Dec.{leb, eqb}
+use lib.Dec.{leb}
 use lib.ListN.{getD, drop}
-use Rattle.model.specs.Lists.{if_then_else_, every}
+use Rattle.model.specs.Lists.{if_then_else_}
 use Rattle.model.specs.Entry.{entryOf, fits}
 use Rattle.model.specs.Taking.{hold}
 use Rattle.model.specs.Image.{Item}
-use Rattle.model.specs.Decoding.{itemOf, parse}
-
--- the first n places of the section h
-abbrev pub items : ℕ → List ℕ → List Item
-items n h = parse n 20 itemOf h
-
--- a place is plain: bytes 2, 3 and 10 zero, byte 11 at most 1
-unfoldable pub plainPlace : List ℕ → Bool
-plainPlace l = every (eqb (getD l 2 0) 0 ∷ eqb (getD l 3 0) 0 ∷ eqb (getD l 10 0) 0 ∷ leb (getD l 11 0) 1 ∷ [])
-
-abbrev pub plain : ℕ → List ℕ → Bool
-plain n h = every (parse n 20 plainPlace h)
+use Rattle.model.specs.Section.{items, plain}
 
 -- one past the last of n places whose stream is not above the fragment, and 0 if there is none
 unfoldable pub endOf : List ℕ → ℕ → ℕ → ℕ
