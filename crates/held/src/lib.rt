@@ -1,0 +1,2 @@
+// Temporary.
+fn nothing() {}

@@ -1,0 +1,2 @@
+// One lot's bytes.
+fn nothing() {}
