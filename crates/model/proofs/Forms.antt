@@ -21,7 +21,7 @@ use Rattle.model.proofs.Shows.{item, both, form-account}
 -- ---- held entries
 
 module _ (i : ℕ) where
-  mine-append : (xs ys : List Item) → mine i (xs ++ ys) ≡ mine i xs ++ mine i ys
+  pub mine-append : (xs ys : List Item) → mine i (xs ++ ys) ≡ mine i xs ++ mine i ys
   unfolding mine
   mine-append [] ys = refl
   mine-append (x ∷ xs) ys = rw (mine-append xs ys) (sym (if-ap (λ hs. hs ++ mine i ys) (eqb (x .stream) i) (x .entry ∷ mine i xs) (mine i xs)))
@@ -43,7 +43,7 @@ module _ (k c : ℕ) (ss : List Counters) where
   held-append before (x ∷ xs) ys = rw (held-append (before ++ x ∷ []) xs ys, append-assoc before (x ∷ []) xs) (simp and-assoc)
 
   -- the entries before are of streams up to i, and those of stream i are hs
-  abbrev Before : ℕ → List Held → List Item → Type 0
+  abbrev pub Before : ℕ → List Held → List Item → Type 0
   Before i hs before = (all (λ g. leb (g .stream) i) before ≡ true) × (mine i before ≡ hs)
 
   -- the entries of one stream
@@ -64,7 +64,7 @@ module _ (k c : ℕ) (ss : List Counters) where
       low [] = refl
       low (h ∷ hs) = rw (le-leb i j (omega arith), low hs)
 
-  blocks : (H : ℕ → List Held) (n i : ℕ) (before : List Item) → ((j : ℕ) → i ≤ j → Before j [] before)
+  pub blocks : (H : ℕ → List Held) (n i : ℕ) (before : List Item) → ((j : ℕ) → i ≤ j → Before j [] before)
       → heldFits k c ss before (upward n i (λ j. map (item j) (H j))) ≡ all (λ j. streamFits (length ss) k j c (countersAt ss j .epoch) [] (H j)) (singles (λ j. j) n i)
   unfolding upward all heldFits
   blocks H zero i before u = refl

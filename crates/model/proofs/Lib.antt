@@ -11,6 +11,7 @@ pub mod Buckets
 pub mod Shows
 pub mod Forms
 pub mod Image
+pub mod ByStream
 -- 3: runs in any order
 pub mod Runs
 -- 4: under the five log rules

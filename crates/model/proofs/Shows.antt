@@ -32,8 +32,14 @@ mine-at i (e ∷ es) = go (eqb (e .stream) i) refl (mine-at i es)
     go true q ih = let s = eqb-true (e .stream) i q in λ t. record { stream = sym s t; entry = e .entry } ∷ ih t
     go false q ih = ih
 
+-- entries that rise by stream are their streams' entries, one stream after the other
+pub by-streams : (f : ℕ) (es : List Item) → Rising (λ e. e .stream) 0 f es → upward f 0 (λ i. map (item i) (mine i es)) ≡ es
+by-streams f es r =
+    upward-cong f 0 (λ i. map (item i) (mine i es)) (λ i. at (λ e. e .stream) i es) (λ i l u. mine-at i es)
+    ∙ buckets (λ e. e .stream) f f 0 es (omega arith) r
+
 module _ (k c : ℕ) (ss : List Counters) where
-  held-rising : (m : ℕ) (before es : List Item) → ((e : Item) → all (λ g. leb (g .stream) (e .stream)) before ≡ true → m ≤ e .stream)
+  pub held-rising : (m : ℕ) (before es : List Item) → ((e : Item) → all (λ g. leb (g .stream) (e .stream)) before ≡ true → m ≤ e .stream)
       → heldFits k c ss before es ≡ true → Rising (λ e. e .stream) m (length ss) es
   unfolding heldFits itemFits entryFits inAccount Rising
   held-rising m before [] f w = tt
@@ -128,6 +134,5 @@ form-account x w =
     let n = nth _ w in
     let f = length (x .streams) in
     let r = records-back f (x .keys) (leb-true (x .keys) 128 (nth _ (n 0) 5)) (x .records) (n 3) in
-    let h = upward-cong f 0 (λ i. map (item i) (mine i (x .held))) (λ i. at (λ e. e .stream) i (x .held)) (λ i l u. mine-at i (x .held))
-          ∙ buckets (λ e. e .stream) f f 0 (x .held) (omega arith) (held-rising (x .keys) (x .closed) (x .streams) 0 [] (x .held) (λ e a. omega arith) (n 4)) in
+    let h = by-streams f (x .held) (held-rising (x .keys) (x .closed) (x .streams) 0 [] (x .held) (λ e a. omega arith) (n 4)) in
     λ i. record { number = x .number; keys = x .keys; closed = x .closed; streams = singles-getD freshCounters (x .streams) i; records = r i; held = h i }
