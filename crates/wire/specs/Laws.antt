@@ -69,7 +69,7 @@ module _ (l : List ℕ) (at v : ℕ) where
       simp (getD-set-same, getD-set-other) (omega arith)
 
 -- lists that agree on the n bytes from index at
-pub Same : List ℕ → List ℕ → ℕ → ℕ → Type 0
+unfoldable pub Same : List ℕ → List ℕ → ℕ → ℕ → Type 0
 Same l m at n = (k : ℕ) → at ≤ k → k < at + n → getD l k 0 ≡ getD m k 0
 
 pub le16-same : (l m : List ℕ) (at : ℕ) → Same l m at 2 → number16 l at ≡ number16 m at
