@@ -1,12 +1,17 @@
--- A head is read back as it was written. Assumes nothing.
+-- A head: its tag compared, its test, and a head read back as it was written. Assumes nothing.
 use Prim.Native.Nat.{ℕ, zero, suc, _+_, _*_, _/_, _%_, _<_}
 use mathlib.Core.Path.{_≡_, refl, sym, ap, _∙_}
+use mathlib.Core.Bool.{Bool, _&&_, and-true, and-assoc}
 use mathlib.Core.List.{List, [], _∷_, _++_}
 use native.Mathlib.Omega.{arith}
+use lib.Dec.{leb, eqb}
 use lib.ListN.{length, getD, drop, length-drop}
 use Rattle.wire.specs.Numbers.{number16, number32, with16, with32, bytes16, bytes32}
+use Rattle.model.specs.Lists.{every}
+use Rattle.model.specs.Account.{accountFits}
+use Rattle.model.specs.Decoding.{same}
 use Rattle.lot.specs.Layout.{OPEN}
-use Rattle.lot.specs.View.{tagOf}
+use Rattle.lot.specs.View.{tagOf, headFits}
 use Rattle.lot.specs.Head.{numbersOf, headBytes}
 use Rattle.lot.specs.declared.Account.{Account}
 
@@ -21,6 +26,17 @@ spell zero [] e = refl
 spell zero (x ∷ l) e = absurd (omega arith)
 spell (suc n) [] e = absurd (omega arith)
 spell (suc n) (x ∷ l) e = ap (λ m. x ∷ m) (spell n l (omega arith))
+
+-- the four bytes of a tag, compared
+pub same-tag : (h t : List ℕ) → length h ≡ 16 → length t ≡ 4
+    → (((eqb (getD h 0 0) (getD t 0 0) && eqb (getD h 1 0) (getD t 1 0)) && eqb (getD h 2 0) (getD t 2 0)) && eqb (getD h 3 0) (getD t 3 0)) ≡ same (tagOf h) t
+unfolding same spelled
+same-tag h t lh lt = rw (spell 16 h lh, spell 4 t lt) (simp (and-assoc, and-true))
+
+-- the test of a head, by the numbers read from it
+pub head-test : (h : List ℕ) (n : Account) (b : Bool) → n ≡ numbersOf h → b ≡ accountFits (n .number) (n .fragments) (n .keys) → ((b && eqb (getD h 7 0) 0) && leb (n .held) 256) ≡ headFits h
+unfolding headFits numbersOf every
+head-test h n b e f = rw (f, e) (simp (and-assoc, and-true))
 
 -- what is put into sixteen bytes, one after the other, is a head
 pub head-written : (h : List ℕ) (n : Account) → length h ≡ 16 → n .fragments < 256

@@ -59,9 +59,9 @@ accountOf h s p r = record {
 unfoldable pub headFits : List ℕ → Bool
 headFits h = every (accountFits (numberOf h) (fragmentsOf h) (keysOf h) ∷ eqb (getD h 7 0) 0 ∷ leb (countOf h) MOST-HELD ∷ [])
 
--- stream i: its zero bytes zero, its open epoch above the closed one
-unfoldable pub streamFits : List ℕ → List ℕ → ℕ → Bool
-streamFits h s i = every (eqb (number16 s (i * 8 + 2)) 0 ∷ ltb (closedOf h) (number32 s (i * 8 + 4)) ∷ [])
+-- stream i: its zero bytes zero, its open epoch above c, the closed one
+unfoldable pub streamFits : ℕ → List ℕ → ℕ → Bool
+streamFits c s i = every (eqb (number16 s (i * 8 + 2)) 0 ∷ ltb c (number32 s (i * 8 + 4)) ∷ [])
 
 unfoldable pub allBelow : (ℕ → Bool) → ℕ → Bool
 allBelow p zero = true
@@ -71,7 +71,7 @@ unfoldable pub fits : List ℕ → List ℕ → List ℕ → Bool
 fits h s p =
     every (
       headFits h
-      ∷ allBelow (streamFits h s) (fragmentsOf h)
+      ∷ allBelow (streamFits (closedOf h) s) (fragmentsOf h)
       ∷ sectionFits (keysOf h) (closedOf h) (parse (fragmentsOf h) 8 countersOf s) (countOf h) p
       ∷ []
     )

@@ -5,8 +5,8 @@ ghost use mathlib.Core.Path.{_≡_};
 ghost use Prim.Native.Nat.{_+_, _*_, _<_, _≤_};
 ghost use lib.ListN.{length, drop};
 ghost use Rattle.model.specs.Account.{accountFits};
-ghost use Rattle.model.specs.Decoding.{countersOf};
-ghost use Rattle.lot.specs.View.{recordAt};
+ghost use Rattle.model.specs.Decoding.{countersOf, same};
+ghost use Rattle.lot.specs.View.{tagOf, recordAt, headFits, streamFits, allBelow};
 ghost use Rattle.lot.specs.Head.{numbersOf, freshNumbers, headBytes};
 ghost use Rattle.lot.specs.Writing.{withCounters, withRecord, withoutRecord, foundOf};
 use model::Counters;
@@ -132,4 +132,43 @@ pub fn delete_record(records: &mut [u8], i: usize, k: usize)
     ensures { λ _. ⌜ now (records .exit) ≡ withoutRecord (now (records .entry)) i k ⌝ }
 {
     records[(i * 128 + k) * 5] = 0;
+}
+
+// ---- the test of a lot
+
+// Whether a head has this tag.
+fn has_tag(head: &[u8], tag: &[u8]) -> bool
+    requires { ⌜ (length (now head) ≡ 16) × (length (now tag) ≡ 4) ⌝ }
+    ensures { λ r. ⌜ r ≡ same (tagOf (now (head .entry))) (now (tag .entry)) ⌝ }
+{
+    (head[0] == tag[0]) & (head[1] == tag[1]) & (head[2] == tag[2]) & (head[3] == tag[3])
+}
+
+fn head_fits(head: &[u8]) -> bool
+    requires { ⌜ 16 ≤ length (now head) ⌝ }
+    ensures { λ r. ⌜ r ≡ headFits (now (head .entry)) ⌝ }
+{
+    let a = Account::read(head);
+    account_fits(a.number as u32, a.fragments as u32, a.keys as u32) & (head[7] == 0) & (a.held <= Account::MOST_HELD)
+}
+
+fn stream_fits(streams: &[u8], i: usize, closed: u32) -> bool
+    requires { ⌜ i * 8 + 8 ≤ length (now streams) ⌝ }
+    ensures { λ r. ⌜ r ≡ streamFits closed (now (streams .entry)) i ⌝ }
+{
+    (wire::get16(streams, i * 8 + 2) == 0) & (closed < wire::get32(streams, i * 8 + 4))
+}
+
+// The first n streams.
+fn streams_fit(streams: &[u8], n: usize, closed: u32) -> bool
+    requires { ⌜ n * 8 ≤ length (now streams) ⌝ }
+    ensures { λ r. ⌜ r ≡ allBelow (streamFits closed (now (streams .entry))) n ⌝ }
+{
+    let mut ok = true;
+    let mut i: usize = 0;
+    while i < n {
+        ok = ok & stream_fits(streams, i, closed);
+        i += 1;
+    }
+    ok
 }
