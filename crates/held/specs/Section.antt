@@ -5,8 +5,9 @@ use mathlib.Core.List.{List, [], _∷_}
 use lib.Dec.{leb, eqb}
 use lib.ListN.{getD}
 use Rattle.model.specs.Lists.{every}
-use Rattle.model.specs.Decoding.{itemOf, parse, heldFits}
+use Rattle.model.specs.Decoding.{parse, heldFits}
 use Rattle.model.specs.declared.Counters.{Counters}
+use Rattle.lookback.specs.Places.{items}
 
 -- a place is plain: bytes 2, 3 and 10 zero, byte 11 at most 1
 unfoldable pub plainPlace : List ℕ → Bool
@@ -17,4 +18,4 @@ plain n h = every (parse n 20 plainPlace h)
 
 -- the first n places of the section h (k keys, c: the closed epoch, ss: the streams' counters)
 unfoldable pub sectionFits : ℕ → ℕ → List Counters → ℕ → List ℕ → Bool
-sectionFits k c ss n h = plain n h && heldFits k c ss [] (parse n 20 itemOf h)
+sectionFits k c ss n h = plain n h && heldFits k c ss [] (items n h)

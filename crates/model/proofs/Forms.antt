@@ -37,7 +37,7 @@ module _ (i : ℕ) where
   mine-other j (h ∷ hs) n = rw (ne-eqb j i n) (mine-other j hs n)
 
 module _ (k c : ℕ) (ss : List Counters) where
-  held-append : (before xs ys : List Item) → heldFits k c ss before (xs ++ ys) ≡ (heldFits k c ss before xs && heldFits k c ss (before ++ xs) ys)
+  pub held-append : (before xs ys : List Item) → heldFits k c ss before (xs ++ ys) ≡ (heldFits k c ss before xs && heldFits k c ss (before ++ xs) ys)
   unfolding heldFits
   held-append before [] ys = rw (append-nil before)
   held-append before (x ∷ xs) ys = rw (held-append (before ++ x ∷ []) xs ys, append-assoc before (x ∷ []) xs) (simp and-assoc)

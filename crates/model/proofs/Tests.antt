@@ -147,3 +147,13 @@ module _ {X : Type 0} where
       go : (b : Bool) → filter p (filter q xs) ≡ filter (λ x. q x && p x) xs → filter p (if b then x ∷ filter q xs else filter q xs) ≡ (if b && p x then x ∷ filter (λ x. q x && p x) xs else filter (λ x. q x && p x) xs)
       go true ih = rw ih
       go false ih = ih
+
+pub every-append : (xs ys : List Bool) → every (xs ++ ys) ≡ (every xs && every ys)
+unfolding every
+every-append [] ys = refl
+every-append (x ∷ xs) ys = rw (every-append xs ys) (sym (and-assoc x (every xs) (every ys)))
+
+pub all-weaken : {X : Type 0} (p q : X → Bool) → ((x : X) → p x ≡ true → q x ≡ true) → (xs : List X) → all p xs ≡ true → all q xs ≡ true
+unfolding all
+all-weaken p q f [] a = a
+all-weaken p q f (x ∷ xs) a = and (f x (and-l (p x) _ a)) (all-weaken p q f xs (and-r (p x) _ a))
