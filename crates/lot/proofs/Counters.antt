@@ -5,32 +5,19 @@ use mathlib.Core.Logic.{_⊎_, inl, inr, ⊎-elim}
 use mathlib.Core.List.{List}
 use native.Mathlib.Omega.{arith}
 use native.Mathlib.Nat.{eq-zero-or-pos}
-use lib.ListN.{length, getD, drop}
-use lib.Seq.{getD-drop}
+use lib.ListN.{length, drop}
 use Rattle.wire.specs.Numbers.{number16, number32, with16, with32}
 use Rattle.wire.specs.Laws.{Same, length-put16, length-put32, get16-put16, get32-put32, put16-same, put32-same, le16-same, le32-same}
 use Rattle.model.specs.Decoding.{countersOf}
 use Rattle.model.specs.declared.Counters.{Counters}
+use Rattle.lookback.proofs.Places.{number16-drop, number32-drop}
 use Rattle.lot.specs.Writing.{withCounters}
 
 -- ---- read where they stand
 
-module _ (l : List ℕ) (n i : ℕ) where
-  number16-drop : number16 (drop n l) i ≡ number16 l (n + i)
-  unfolding number16
-  number16-drop = let e : n + (i + 1) ≡ n + i + 1 = omega arith in simp (getD-drop, e)
-
-  number32-drop : number32 (drop n l) i ≡ number32 l (n + i)
-  unfolding number32
-  number32-drop =
-      let e1 : n + (i + 1) ≡ n + i + 1 = omega arith in
-      let e2 : n + (i + 2) ≡ n + i + 2 = omega arith in
-      let e3 : n + (i + 3) ≡ n + i + 3 = omega arith in
-      simp (getD-drop, e1, e2, e3)
-
 pub counters-at : (s : List ℕ) (n : ℕ) → countersOf (drop n s) ≡ record { next = number16 s n; epoch = number32 s (n + 4) }
 unfolding countersOf
-counters-at s n = let z : n + 0 ≡ n = omega arith in rw (number16-drop s n 0, number32-drop s n 4, z)
+counters-at s n = let z : n + 0 ≡ n = omega arith in rw (number16-drop n s 0, number32-drop n s 4, z)
 
 -- ---- after a write
 

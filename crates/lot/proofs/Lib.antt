@@ -1,3 +1,4 @@
 pub mod Heads
 pub mod Counters
 pub mod Records
+pub mod Looks

@@ -6,11 +6,15 @@ ghost use Prim.Native.Nat.{_+_, _*_, _<_, _≤_};
 ghost use lib.ListN.{length, drop};
 ghost use Rattle.model.specs.Account.{accountFits};
 ghost use Rattle.model.specs.Decoding.{countersOf, same};
-ghost use Rattle.lot.specs.View.{tagOf, recordAt, headFits, streamFits, allBelow};
+ghost use Rattle.lot.specs.Layout.{SIZE};
+ghost use Rattle.lot.specs.View.{tagOf, recordAt, headFits, streamFits, allBelow, fits};
+ghost use Rattle.lot.specs.Look.{lookOf};
 ghost use Rattle.lot.specs.Head.{numbersOf, freshNumbers, headBytes};
 ghost use Rattle.lot.specs.Writing.{withCounters, withRecord, withoutRecord, foundOf};
 use model::Counters;
 use model::Found;
+
+pub const SIZE: usize = 10320;
 
 // The numbers of an account, as the head of its lot has them.
 pub struct Account {
@@ -171,4 +175,40 @@ fn streams_fit(streams: &[u8], n: usize, closed: u32) -> bool
         i += 1;
     }
     ok
+}
+
+// The well-formedness test: linear in the streams and the held entries.
+fn fits(head: &[u8], streams: &[u8], places: &[u8]) -> bool
+    requires { ⌜ (length (now head) ≡ 16) × (length (now streams) ≡ 64) × (length (now places) ≡ 5120) ⌝ }
+    ensures { λ r. ⌜ r ≡ fits (now (head .entry)) (now (streams .entry)) (now (places .entry)) ⌝ }
+{
+    if !head_fits(head) {
+        return false;
+    }
+    let a = Account::read(head);
+    streams_fit(streams, a.fragments as usize, a.closed)
+        & held::section_fits(streams, places, a.fragments, a.keys, a.closed, a.held as usize)
+}
+
+// What a lot is, and of an open one the account's numbers.
+pub enum Look {
+    Free,
+    Damaged,
+    Holds(Account),
+}
+
+pub fn look_at(lot: &[u8]) -> Look
+    requires { ⌜ length (now lot) ≡ SIZE ⌝ }
+    ensures { λ r. ⌜ r ≡ lookOf (now (lot .entry)) ⌝ }
+{
+    if has_tag(&lot[0..16], b"FREE") {
+        return Look::Free;
+    }
+    if !has_tag(&lot[0..16], b"OPEN") {
+        return Look::Damaged;
+    }
+    if !fits(&lot[0..16], &lot[16..80], &lot[80..5200]) {
+        return Look::Damaged;
+    }
+    Look::Holds(Account::read(&lot[0..16]))
 }
