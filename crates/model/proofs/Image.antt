@@ -25,14 +25,14 @@ use Rattle.model.proofs.Forms.{streams-length, held-length}
 
 -- ---- what is accepted
 
-same-true : (xs ys : List ℕ) → same xs ys ≡ true → xs ≡ ys
+pub same-true : (xs ys : List ℕ) → same xs ys ≡ true → xs ≡ ys
 unfolding same
 same-true [] [] e = refl
 same-true [] (y ∷ ys) e = cc
 same-true (x ∷ xs) [] e = cc
 same-true (x ∷ xs) (y ∷ ys) e = let p = eqb-true x y (and-l _ _ e) in let q = same-true xs ys (and-r (eqb x y) _ e) in cc
 
-same-refl : (xs : List ℕ) → same xs xs ≡ true
+pub same-refl : (xs : List ℕ) → same xs xs ≡ true
 unfolding same
 same-refl [] = refl
 same-refl (x ∷ xs) = rw (eq-eqb x x refl, same-refl xs)

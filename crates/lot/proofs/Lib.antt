@@ -1,0 +1,6 @@
+pub mod Heads
+pub mod Counters
+pub mod Records
+pub mod Looks
+pub mod Shown
+pub mod Views
