@@ -4,3 +4,6 @@ pub mod Records
 pub mod Looks
 pub mod Shown
 pub mod Views
+pub mod Parts
+pub mod Fresh
+pub mod Changes
