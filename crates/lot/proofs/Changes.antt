@@ -17,7 +17,7 @@ use Rattle.lot.specs.Sections.{Sections}
 use Rattle.lot.proofs.Heads.{head-tag, head-zero, head-numbers}
 use Rattle.lot.proofs.Counters.{counters-own, counters-other, zeros-own, zeros-other}
 use Rattle.lot.proofs.Records.{put-own, put-other, delete-own, delete-other}
-use Rattle.lot.proofs.Shown.{HeadShows, StreamsShow, RecordsShow, Shows}
+use Rattle.lot.proofs.Shown.{HeadShows, StreamsShow, PlacesShow, RecordsShow, Shows}
 use Rattle.lot.proofs.Views.{shown-view}
 
 -- a lot with sections that show a well-formed account holds it
@@ -38,6 +38,21 @@ module _ (n : ℕ) (a : Account) where
   pub shown-numbers : {h : List ℕ} → HeadShows h n a → numbersOf h ≡ numbersWith n a
   unfolding numbersOf
   shown-numbers w = λ t. record { number = w .number t; fragments = w .fragments t; keys = w .keys t; held = w .count t; closed = w .closed t }
+
+-- ---- a section that is not written shows an account b that is like a there
+
+module _ (a b : Account) (f : b .fragments ≡ a .fragments) where
+  pub head-same : {h : List ℕ} {n : ℕ} → b .number ≡ a .number → b .keys ≡ a .keys → b .closed ≡ a .closed → HeadShows h n a → HeadShows h n b
+  head-same m k c w = record { tag = w .tag; number = w .number ∙ sym m; fragments = w .fragments ∙ sym f; zero-byte = w .zero-byte; keys = w .keys ∙ sym k; count = w .count; closed = w .closed ∙ sym c }
+
+  pub streams-same : {s : List ℕ} → ((i : ℕ) → b .at i .counters ≡ a .at i .counters) → StreamsShow s a → StreamsShow s b
+  streams-same e w = record { counters = λ i h. w .counters i (omega arith) ∙ sym (e i); zero-bytes = λ i h. w .zero-bytes i (omega arith) }
+
+  pub places-same : {p : List ℕ} {n : ℕ} → ((i : ℕ) → b .at i .held ≡ a .at i .held) → PlacesShow p n a → PlacesShow p n b
+  places-same e w = record { held = λ i h. w .held i (omega arith) ∙ sym (e i); sorted = rw f (w .sorted); plain-places = w .plain-places }
+
+  pub records-same : (r : List ℕ) → b .keys ≡ a .keys → ((i k : ℕ) → b .at i .records k ≡ a .at i .records k) → RecordsShow r a → RecordsShow r b
+  records-same r k e w i j h l = w i j (omega arith) (omega arith) ∙ sym (e i j)
 
 -- ---- the account b has the counters c in stream i, and else those of a
 

@@ -7,3 +7,5 @@ pub mod Views
 pub mod Parts
 pub mod Fresh
 pub mod Changes
+pub mod RecordSet
+pub mod Looked

@@ -1,10 +1,13 @@
--- The streams and the records of a lot after a write, and a record as it is answered.
+-- The streams and the records of a lot after a write, an account with another record, and a record as it is answered.
 use Prim.Native.Nat.{ℕ, zero, suc, _+_, _*_}
 use mathlib.Core.Path.{_≡_}
+use mathlib.Core.Bool.{_&&_}
 use mathlib.Core.List.{List}
+use lib.Dec.{eqb}
 use lib.ListN.{getD, set}
 use Rattle.wire.specs.Numbers.{with16, with32}
-use Rattle.model.specs.Account.{Record, absent, present, freshCounters}
+use Rattle.model.specs.Lists.{if_then_else_}
+use Rattle.model.specs.Account.{Record, absent, present, Account, freshCounters}
 use Rattle.model.specs.declared.Counters.{Counters}
 use Rattle.model.specs.declared.Found.{Found}
 use Rattle.model.specs.declared.Found.the-variants.{Present, Absent}
@@ -32,3 +35,13 @@ Zeros r = (n : ℕ) → getD r n 0 ≡ 0
 abbrev pub foundOf : Record → Found
 foundOf absent = Absent
 foundOf (present v) = Present v
+
+-- the account a with the record x of fragment i and key k
+unfoldable pub recordSet : ℕ → ℕ → Record → Account → Account
+recordSet i k x a = record {
+  number = a .number;
+  fragments = a .fragments;
+  keys = a .keys;
+  closed = a .closed;
+  at = λ j. record { counters = a .at j .counters; held = a .at j .held; records = λ l. if eqb i j && eqb k l then x else a .at j .records l };
+}
