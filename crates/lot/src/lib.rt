@@ -183,7 +183,9 @@ fn head_fits(head: &[u8]) -> bool
     ensures { λ r. ⌜ r ≡ headFits (now (head .entry)) ⌝ }
 {
     let a = Account::read(head);
-    account_fits(a.number as u32, a.fragments as u32, a.keys as u32) & (head[7] == 0) & (a.held <= Account::MOST_HELD)
+    account_fits(a.number as u32, a.fragments as u32, a.keys as u32)
+        & (head[7] == 0)
+        & (a.held <= Account::MOST_HELD)
 }
 
 fn stream_fits(streams: &[u8], i: usize, closed: u32) -> bool
@@ -217,7 +219,14 @@ fn fits(head: &[u8], streams: &[u8], places: &[u8]) -> bool
     }
     let a = Account::read(head);
     streams_fit(streams, a.fragments as usize, a.closed)
-        & held::section_fits(streams, places, a.fragments, a.keys, a.closed, a.held as usize)
+        & held::section_fits(
+            streams,
+            places,
+            a.fragments,
+            a.keys,
+            a.closed,
+            a.held as usize,
+        )
 }
 
 // What a lot is, and of an open one the account's numbers.

@@ -1,12 +1,12 @@
 -- What the sections show of an account after a write. Assumes nothing.
 use Prim.Native.Nat.{ℕ, _+_, _*_, _<_, _≤_, _^_}
-use mathlib.Core.Path.{_≡_, refl, sym, ap, _∙_}
+use mathlib.Core.Path.{_≡_, sym, _∙_}
 use mathlib.Core.List.{List}
 use native.Mathlib.Omega.{arith}
 use native.Mathlib.Decide.{ℕ-discrete}
 use lib.ListN.{length, drop}
 use Rattle.wire.specs.Numbers.{number16}
-use Rattle.model.specs.Account.{Record, absent, present, Account}
+use Rattle.model.specs.Account.{absent, present, Account}
 use Rattle.model.specs.Accepting.{WellFormed}
 use Rattle.model.specs.Decoding.{countersOf}
 use Rattle.model.specs.declared.Counters.{Counters}

@@ -1,8 +1,8 @@
 -- A lot that is freed, and one in which an account is opened. Assumes nothing.
 use Prim.Native.Nat.{ℕ, zero, suc, _+_, _*_, _<_, _≤_}
-use mathlib.Core.Path.{_≡_, refl, sym, ap, _∙_}
+use mathlib.Core.Path.{_≡_, refl, ap, _∙_}
 use mathlib.Core.Bool.{true}
-use mathlib.Core.List.{List, [], _++_}
+use mathlib.Core.List.{List, _++_}
 use native.Mathlib.Omega.{arith}
 use native.Mathlib.Decide.{decLt}
 use borrow.Author.Tests.{leb-true}
@@ -10,7 +10,7 @@ use lib.ListN.{length, getD, drop, set, List·getD-eq-default}
 use lib.Seq.{getD-set-same, getD-set-other}
 use Rattle.wire.specs.Numbers.{number16}
 use Rattle.model.specs.Lists.{every}
-use Rattle.model.specs.Account.{absent, Account, freshCounters, accountFits, fresh}
+use Rattle.model.specs.Account.{absent, freshCounters, accountFits, fresh}
 use Rattle.model.specs.Decoding.{countersOf, parse, mine, same}
 use Rattle.model.proofs.Tests.{nth}
 use Rattle.model.proofs.Buckets.{Rising}

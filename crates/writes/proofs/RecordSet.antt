@@ -1,6 +1,6 @@
 -- A lot after a record is put or deleted holds the account with that record, which is well-formed as before. Assumes nothing.
-use Prim.Native.Nat.{ℕ, _+_, _*_, _<_, _≤_, _^_}
-use mathlib.Core.Path.{_≡_, refl, sym, ap, _∙_}
+use Prim.Native.Nat.{ℕ, _<_, _≤_, _^_}
+use mathlib.Core.Path.{_≡_, refl, _∙_}
 use mathlib.Core.Bool.{Bool, true, false, _&&_}
 use mathlib.Core.List.{List}
 use native.Mathlib.Omega.{arith}
@@ -11,13 +11,13 @@ use Rattle.model.specs.Lists.{if_then_else_}
 use Rattle.model.specs.Account.{Record, absent, present, Account, accountFits, heldCount}
 use Rattle.model.specs.Accepting.{WellFormed}
 use Rattle.model.proofs.Tests.{nth}
-use Rattle.lot.specs.Layout.{SIZE, headOf, streamsOf, placesOf, recordsOf}
+use Rattle.lot.specs.Layout.{SIZE, recordsOf}
 use Rattle.lot.specs.View.{holds, viewLot}
 use Rattle.lot.specs.Writing.{withRecord, withoutRecord}
 use Rattle.writes.specs.RecordSet.{recordSet}
 use Rattle.writes.specs.Sections.{WithRecords}
 use Rattle.lot.proofs.Lengths.{length-records}
-use Rattle.lot.proofs.Shown.{RecordsShow, LotShows}
+use Rattle.lot.proofs.Shown.{RecordsShow}
 use Rattle.lot.proofs.Views.{holds-shown, holds-well-formed}
 use Rattle.writes.proofs.Changes.{sections-hold, head-same, streams-same, places-same, put-shown, delete-shown}
 

@@ -2,9 +2,7 @@
 use Prim.Native.Nat.{ℕ, _<_, _≤_, _-_}
 use mathlib.Core.Path.{_≡_, refl}
 use native.Mathlib.Omega.{arith}
-use lib.ListN.{length, getD, List·getD-eq-default}
-use native.Mathlib.Decide.{decLt}
-use Rattle.writes.specs.Fresh.{Zeros}
+use lib.ListN.{length, getD}
 use Rattle.writes.proofs.Fresh.{zero-more, all-zero}
 use borrow.Author.Needs.{needs}
 use Rattle.writes.proofs.clear_records.Statement.{statement}

@@ -1,5 +1,5 @@
 -- `unset_record` deletes a record, and the other sections stay. Assumes nothing.
-use mathlib.Core.Path.{_≡_, ap, _∙_}
+use mathlib.Core.Path.{ap, _∙_}
 use native.Mathlib.Omega.{arith}
 use Rattle.lot.specs.Writing.{withoutRecord}
 use Rattle.lot.proofs.Lengths.{records-part}
