@@ -14,6 +14,13 @@ ghost use Rattle.lot.specs.Writing.{withCounters, withRecord, withoutRec
 use model::Counters;
 use model::Found;
 
+// Where the sections begin: streams, places and records, after the head; and the end of a lot.
+pub const STREAMS: usize = 16;
+
+pub const PLACES: usize = 80;
+
+pub const RECORDS: usize = 5200;
+
 pub const SIZE: usize = 10320;
 
 // The numbers of an account, as the head of its lot has them.
@@ -144,28 +151,28 @@ pub fn head_of(lot: &[u8]) -> &[u8]
     requires { ⌜ length (now lot) ≡ SIZE ⌝ }
     ensures { λ r. ⌜ now r ≡ headOf (now (lot .entry)) ⌝ }
 {
-    &lot[0..16]
+    &lot[0..STREAMS]
 }
 
 pub fn streams_of(lot: &[u8]) -> &[u8]
     requires { ⌜ length (now lot) ≡ SIZE ⌝ }
     ensures { λ r. ⌜ now r ≡ streamsOf (now (lot .entry)) ⌝ }
 {
-    &lot[16..80]
+    &lot[STREAMS..PLACES]
 }
 
 pub fn places_of(lot: &[u8]) -> &[u8]
     requires { ⌜ length (now lot) ≡ SIZE ⌝ }
     ensures { λ r. ⌜ now r ≡ placesOf (now (lot .entry)) ⌝ }
 {
-    &lot[80..5200]
+    &lot[PLACES..RECORDS]
 }
 
 pub fn records_of(lot: &[u8]) -> &[u8]
     requires { ⌜ length (now lot) ≡ SIZE ⌝ }
     ensures { λ r. ⌜ now r ≡ recordsOf (now (lot .entry)) ⌝ }
 {
-    &lot[5200..10320]
+    &lot[RECORDS..SIZE]
 }
 
 // ---- the test of a lot

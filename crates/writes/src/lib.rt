@@ -21,28 +21,28 @@ pub fn set_head(lot: &mut [u8], account: Account)
     requires { ⌜ length (now lot) ≡ SIZE ⌝ }
     ensures { λ _. ⌜ WithHead (now (lot .entry)) (now (lot .exit)) (headBytes account) ⌝ }
 {
-    lot::write_head(&mut lot[0..16], account);
+    lot::write_head(&mut lot[0..lot::STREAMS], account);
 }
 
 pub fn set_counters(lot: &mut [u8], i: usize, c: Counters)
     requires { ⌜ (length (now lot) ≡ SIZE) × (i < 8) ⌝ }
     ensures { λ _. ⌜ WithStreams (now (lot .entry)) (now (lot .exit)) (withCounters (streamsOf (now (lot .entry))) i c) ⌝ }
 {
-    lot::write_counters(&mut lot[16..80], i, c);
+    lot::write_counters(&mut lot[lot::STREAMS..lot::PLACES], i, c);
 }
 
 pub fn set_record(lot: &mut [u8], i: usize, k: usize, value: u32)
     requires { ⌜ (length (now lot) ≡ SIZE) × (i < 8) × (k < 128) ⌝ }
     ensures { λ _. ⌜ WithRecords (now (lot .entry)) (now (lot .exit)) (withRecord (recordsOf (now (lot .entry))) i k value) ⌝ }
 {
-    lot::put_record(&mut lot[5200..10320], i, k, value);
+    lot::put_record(&mut lot[lot::RECORDS..lot::SIZE], i, k, value);
 }
 
 pub fn unset_record(lot: &mut [u8], i: usize, k: usize)
     requires { ⌜ (length (now lot) ≡ SIZE) × (i < 8) × (k < 128) ⌝ }
     ensures { λ _. ⌜ WithRecords (now (lot .entry)) (now (lot .exit)) (withoutRecord (recordsOf (now (lot .entry))) i k) ⌝ }
 {
-    lot::delete_record(&mut lot[5200..10320], i, k);
+    lot::delete_record(&mut lot[lot::RECORDS..lot::SIZE], i, k);
 }
 
 // ---- a whole lot
@@ -74,14 +74,14 @@ fn set_fresh_streams(lot: &mut [u8])
     requires { ⌜ length (now lot) ≡ SIZE ⌝ }
     ensures { λ _. ⌜ WithStreams (now (lot .entry)) (now (lot .exit)) (freshStreams (streamsOf (now (lot .entry))) 8) ⌝ }
 {
-    fresh_streams(&mut lot[16..80]);
+    fresh_streams(&mut lot[lot::STREAMS..lot::PLACES]);
 }
 
 fn unset_records(lot: &mut [u8])
     requires { ⌜ length (now lot) ≡ SIZE ⌝ }
     ensures { λ _. ⌜ WithRecords (now (lot .entry)) (now (lot .exit)) (recordsOf (now (lot .exit))) × Zeros (recordsOf (now (lot .exit))) ⌝ }
 {
-    clear_records(&mut lot[5200..10320]);
+    clear_records(&mut lot[lot::RECORDS..lot::SIZE]);
 }
 
 // Makes a lot free: it writes the tag and nothing else.
