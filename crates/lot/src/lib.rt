@@ -1,18 +1,25 @@
 // One lot's bytes, in four sections: head, streams, places and records. What they mean stands in specs/View.antt.
-// Each reader and writer takes one section; the functions on a whole lot lend the sections as parts of it.
+// Each reader and writer takes one section and knows only its offsets; one look at a lot serves a whole call.
 // It stands on `wire`, `model` and `held`, whose test of the places is a part of the damage test.
 ghost use mathlib.Core.Path.{_≡_};
 ghost use Prim.Native.Nat.{_+_, _*_, _<_, _≤_};
 ghost use lib.ListN.{length, drop};
 ghost use Rattle.model.specs.Account.{accountFits};
 ghost use Rattle.model.specs.Decoding.{countersOf, same};
-ghost use Rattle.lot.specs.Layout.{SIZE};
+ghost use Rattle.lot.specs.Layout.{SIZE, headOf, streamsOf, placesOf, recordsOf};
 ghost use Rattle.lot.specs.View.{tagOf, recordAt, headFits, streamFits, allBelow, fits};
 ghost use Rattle.lot.specs.Look.{lookOf};
 ghost use Rattle.lot.specs.Head.{numbersOf, freshNumbers, headBytes};
 ghost use Rattle.lot.specs.Writing.{withCounters, withRecord, withoutRecord, foundOf};
 use model::Counters;
 use model::Found;
+
+// Where the sections begin: streams, places and records, after the head; and the end of a lot.
+pub const STREAMS: usize = 16;
+
+pub const PLACES: usize = 80;
+
+pub const RECORDS: usize = 5200;
 
 pub const SIZE: usize = 10320;
 
@@ -138,6 +145,36 @@ pub fn delete_record(records: &mut [u8], i: usize, k: usize)
     records[(i * 128 + k) * 5] = 0;
 }
 
+// ---- the sections of a lot, to read
+
+pub fn head_of(lot: &[u8]) -> &[u8]
+    requires { ⌜ length (now lot) ≡ SIZE ⌝ }
+    ensures { λ r. ⌜ now r ≡ headOf (now (lot .entry)) ⌝ }
+{
+    &lot[0..STREAMS]
+}
+
+pub fn streams_of(lot: &[u8]) -> &[u8]
+    requires { ⌜ length (now lot) ≡ SIZE ⌝ }
+    ensures { λ r. ⌜ now r ≡ streamsOf (now (lot .entry)) ⌝ }
+{
+    &lot[STREAMS..PLACES]
+}
+
+pub fn places_of(lot: &[u8]) -> &[u8]
+    requires { ⌜ length (now lot) ≡ SIZE ⌝ }
+    ensures { λ r. ⌜ now r ≡ placesOf (now (lot .entry)) ⌝ }
+{
+    &lot[PLACES..RECORDS]
+}
+
+pub fn records_of(lot: &[u8]) -> &[u8]
+    requires { ⌜ length (now lot) ≡ SIZE ⌝ }
+    ensures { λ r. ⌜ now r ≡ recordsOf (now (lot .entry)) ⌝ }
+{
+    &lot[RECORDS..SIZE]
+}
+
 // ---- the test of a lot
 
 // Whether a head has this tag.
@@ -153,7 +190,9 @@ fn head_fits(head: &[u8]) -> bool
     ensures { λ r. ⌜ r ≡ headFits (now (head .entry)) ⌝ }
 {
     let a = Account::read(head);
-    account_fits(a.number as u32, a.fragments as u32, a.keys as u32) & (head[7] == 0) & (a.held <= Account::MOST_HELD)
+    account_fits(a.number as u32, a.fragments as u32, a.keys as u32)
+        & (head[7] == 0)
+        & (a.held <= Account::MOST_HELD)
 }
 
 fn stream_fits(streams: &[u8], i: usize, closed: u32) -> bool
@@ -187,7 +226,14 @@ fn fits(head: &[u8], streams: &[u8], places: &[u8]) -> bool
     }
     let a = Account::read(head);
     streams_fit(streams, a.fragments as usize, a.closed)
-        & held::section_fits(streams, places, a.fragments, a.keys, a.closed, a.held as usize)
+        & held::section_fits(
+            streams,
+            places,
+            a.fragments,
+            a.keys,
+            a.closed,
+            a.held as usize,
+        )
 }
 
 // What a lot is, and of an open one the account's numbers.
@@ -201,14 +247,15 @@ pub fn look_at(lot: &[u8]) -> Look
     requires { ⌜ length (now lot) ≡ SIZE ⌝ }
     ensures { λ r. ⌜ r ≡ lookOf (now (lot .entry)) ⌝ }
 {
-    if has_tag(&lot[0..16], b"FREE") {
+    let head = head_of(lot);
+    if has_tag(head, b"FREE") {
         return Look::Free;
     }
-    if !has_tag(&lot[0..16], b"OPEN") {
+    if !has_tag(head, b"OPEN") {
         return Look::Damaged;
     }
-    if !fits(&lot[0..16], &lot[16..80], &lot[80..5200]) {
+    if !fits(head, streams_of(lot), places_of(lot)) {
         return Look::Damaged;
     }
-    Look::Holds(Account::read(&lot[0..16]))
+    Look::Holds(Account::read(head))
 }
