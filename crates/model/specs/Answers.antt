@@ -1,5 +1,6 @@
 -- The numbers of each answer: 0 is done; a refusal returns its number, other numbers 0 (but for 12).
 use Prim.Native.Nat.{ℕ}
+use Rattle.model.specs.declared.Numbers.{Numbers}
 use Rattle.model.specs.declared.Refusal.{Refusal}
 use Rattle.model.specs.declared.Refusal.the-variants.{NoSuchLot, Damaged, NotThisAccount, WrongLength, Unfit, OutsideAccount, Seen, Gap, WrongMark, OutOfTurn, Full, MarkMissing, AlreadyOpen, NoFreeLot, UnfitAccount, TooShort, NotAccepted}
 use Rattle.model.specs.declared.Outcome.{Outcome}
@@ -14,11 +15,6 @@ use Rattle.model.specs.declared.Saved.{Saved}
 use Rattle.model.specs.declared.Saved.the-variants.{Length, NotSaved}
 
 -- the answer's number and its two other numbers
-pub record Numbers : Type 0 where
-  pub number : ℕ
-  pub first : ℕ
-  pub second : ℕ
-
 abbrev pub numbers : ℕ → ℕ → ℕ → Numbers
 numbers n x y = record { number = n; first = x; second = y }
 

@@ -128,3 +128,11 @@ pub enum Saved {
     Length(u32),
     NotSaved(Refusal),
 }
+
+// An answer as numbers: its own number (0 done, otherwise the refusal's) and two more. specs/Answers.antt says them for
+// each case of each answer.
+pub struct Numbers {
+    pub number: u32,
+    pub first: u32,
+    pub second: u32,
+}
