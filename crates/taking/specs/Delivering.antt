@@ -9,7 +9,7 @@ use Rattle.model.specs.Lists.{if_then_else_}
 use Rattle.model.specs.Entry.{entryOf, isMark}
 use Rattle.model.specs.Account.{Account, MOST-HELD}
 use Rattle.model.specs.Stages.{takes}
-use Rattle.model.specs.Taking.{judge, taken}
+use Rattle.model.specs.Taking.{judgeEntry, judge, taken}
 use Rattle.model.specs.declared.Entry.{Entry}
 use Rattle.model.specs.declared.Stage.{Stage}
 use Rattle.model.specs.declared.Outcome.{Outcome}
@@ -21,7 +21,12 @@ use Rattle.lot.specs.Look.{lookOf}
 use Rattle.lot.specs.declared.Account as numbers
 use Rattle.lot.specs.declared.Look.the-variants.{Holds}
 
--- 9, 10 and 11 of an entry that is due, where epoch o is open in its stream, its transaction is at stage s there, and n entries are held
+-- the lot l has been looked at, and n are the numbers of the account that it holds
+pub record Looked (l : List ℕ) (n : numbers.Account) : Type 0 where
+  pub size : length l ≡ SIZE
+  pub seen : lookOf l ≡ Holds n
+
+-- 9, 10 and 11 of an entry that is due: epoch o is open in its stream, its transaction is at stage s there, and n entries are held
 unfoldable pub judgeDue : ℕ → Stage → ℕ → Entry → Outcome
 judgeDue o s n e =
     if isMark e && not (eqb (e .transaction) o) then Refused WrongMark
@@ -29,12 +34,10 @@ judgeDue o s n e =
     else if not (isMark e) && leb MOST-HELD n then Refused Full
     else Done
 
--- the lot l has been looked at, and n are the numbers of the account that it holds
-pub record Looked (l : List ℕ) (n : numbers.Account) : Type 0 where
-  pub size : length l ≡ SIZE
-  pub seen : lookOf l ≡ Holds n
+-- r is what the account that the lot l holds judges of an entry, and of an entry's bytes
+abbrev pub EntryJudged : List ℕ → Entry → Outcome → Type 0
+EntryJudged l e r = (a : Account) → viewLot l ≡ holds a → r ≡ judgeEntry a e
 
--- r is the judgement of an entry's bytes by the account that the lot l holds
 abbrev pub Judged : List ℕ → List ℕ → Outcome → Type 0
 Judged l bytes r = (a : Account) → viewLot l ≡ holds a → r ≡ judge a bytes
 
@@ -44,15 +47,15 @@ Taken l l' bytes = (a : Account) → viewLot l ≡ holds a → viewLot l' ≡ ho
 
 -- ---- 2 and 3, then the judgement; a refusal changes nothing
 
-abbrev pub deliverAnswer : Lot → ℕ → List ℕ → Outcome
-deliverAnswer damaged number bytes = Refused Damaged
-deliverAnswer free number bytes = Refused NotThisAccount
-deliverAnswer (holds a) number bytes = if eqb (a .number) number then judge a bytes else Refused NotThisAccount
+abbrev pub answerOf : Lot → ℕ → List ℕ → Outcome
+answerOf damaged number bytes = Refused Damaged
+answerOf free number bytes = Refused NotThisAccount
+answerOf (holds a) number bytes = if eqb (a .number) number then judge a bytes else Refused NotThisAccount
 
 abbrev pub Left : List ℕ → List ℕ → List ℕ → Outcome → Type 0
 Left l l' bytes Done = Taken l l' bytes
 Left l l' bytes (Refused r) = l' ≡ l
 
 pub record Delivered (l l' : List ℕ) (number : ℕ) (bytes : List ℕ) (r : Outcome) : Type 0 where
-  pub answer : r ≡ deliverAnswer (viewLot l) number bytes
+  pub answer : r ≡ answerOf (viewLot l) number bytes
   pub left : Left l l' bytes r

@@ -1,38 +1,46 @@
+-- `judge_due` answers 9, 10 and 11. Assumes nothing.
+use mathlib.Core.Path.{_≡_, sym, ap, _∙_}
+use borrow.Author.Tests.{eq-eqb, ne-eqb, le-leb, lt-leb, not-true, not-false}
+use Rattle.model.specs.Stages.{takes}
+use Rattle.taking.specs.Delivering.{judgeDue}
 use borrow.Author.Needs.{needs}
 use Rattle.taking.proofs.judge_due.Statement.{statement}
 use Rattle.taking.proofs.judge_due.Tie as tie
-use Rattle.taking.proofs.judge_due.Reads as reads
-use Rattle.taking.proofs.judge_due.Lts as lts
-use Rattle.entry.proofs.takes.Reads as takes-reads
-use Rattle.lookback.proofs.stage_of.Reads as stage-of-reads
 
--- src/lib.rt:23:13
 returns : tie.Need-returns
-returns c = ?
+unfolding judgeDue
+returns c = rw (eq-eqb _ _ (c .before .before .if1 .taken), eq-eqb _ _ (c .if2 .taken))
 
--- src/lib.rt:25:9
 returns-2 : tie.Need-returns-2
-returns-2 c = ?
+unfolding judgeDue
+returns-2 c = rw (eq-eqb _ _ (c .before .before .if1 .taken), ne-eqb _ _ (c .if2 .left))
 
--- src/lib.rt:27:9
 stage-of-requires : tie.Need-stage-of-requires
 stage-of-requires c κs = search needs
 
--- src/lib.rt:28:9
 takes-requires : tie.Need-takes-requires
 takes-requires c κs = search needs
 
--- src/lib.rt:29:9
 returns-3 : tie.Need-returns-3
-returns-3 c = ?
+unfolding judgeDue
+returns-3 c =
+    let s = c .before .before in
+    let t = ap (takes _) (sym (s .stage-of .ensures)) ∙ sym (c .before .takes .ensures) ∙ not-true _ (c .if3 .taken) in
+    rw (ne-eqb _ _ (s .before .if1 .left), t)
 
--- src/lib.rt:32:9
 returns-4 : tie.Need-returns-4
-returns-4 c = ?
+unfolding judgeDue
+returns-4 c =
+    let s = c .before .before .before in
+    let t = ap (takes _) (sym (s .stage-of .ensures)) ∙ sym (c .before .before .takes .ensures) ∙ not-false _ (c .before .if3 .left) in
+    rw (ne-eqb _ _ (s .before .if1 .left), t, lt-leb 256 _ (c .if4 .taken))
 
--- src/lib.rt:17:1
 returns-5 : tie.Need-returns-5
-returns-5 c = ?
+unfolding judgeDue
+returns-5 c =
+    let s = c .before .before .before in
+    let t = ap (takes _) (sym (s .stage-of .ensures)) ∙ sym (c .before .before .takes .ensures) ∙ not-false _ (c .before .if3 .left) in
+    rw (ne-eqb _ _ (s .before .if1 .left), t, le-leb 256 _ (c .if4 .left))
 
 pub judge-due-spec : {M : Type 1} → statement M
 judge-due-spec =
