@@ -6,8 +6,8 @@ use mathlib.Core.List.{List, [], _++_}
 use native.Mathlib.Omega.{arith}
 use native.Mathlib.Decide.{decLt}
 use borrow.Author.Tests.{leb-true}
-use lib.ListN.{length, getD, drop, set, length-drop, List·getD-eq-default}
-use lib.Seq.{length-take-le, getD-set-same, getD-set-other}
+use lib.ListN.{length, getD, drop, set, List·getD-eq-default}
+use lib.Seq.{getD-set-same, getD-set-other}
 use Rattle.wire.specs.Numbers.{number16}
 use Rattle.model.specs.Lists.{every}
 use Rattle.model.specs.Account.{absent, Account, freshCounters, accountFits, fresh}
@@ -20,6 +20,7 @@ use Rattle.lot.specs.View.{recordAt, free, holds, view, viewLot}
 use Rattle.lot.specs.Head.{freshNumbers, headBytes}
 use Rattle.lot.specs.Writing.{withCounters, freshStreams, Zeros}
 use Rattle.lot.specs.Sections.{WithHead, WithStreams, WithRecords}
+use Rattle.lot.proofs.Parts.{length-streams}
 use Rattle.lot.proofs.Counters.{length-counters, counters-own, counters-other, zeros-own, zeros-other}
 use Rattle.lot.proofs.Shown.{Shows}
 use Rattle.lot.proofs.Changes.{head-shown, sections-hold}
@@ -98,5 +99,5 @@ module _ (number f k : ℕ) (fit : accountFits number f k ≡ true) where
       let h = c .head ∙ b .head ∙ a .head in
       let s = c .streams ∙ b .streams ∙ ap (λ x. freshStreams x 8) (a .streams) in
       sections-hold (record { head = h; streams = s; places = c .places; records = refl })
-      (fresh-shown (streamsOf l) _ (recordsOf l₃) (length-take-le 64 (drop 16 l) (omega (arith, length-drop 16 l))) z)
+      (fresh-shown (streamsOf l) _ (recordsOf l₃) (length-streams l size) z)
       (fresh-well-formed number f k fit)

@@ -1,11 +1,11 @@
--- A section that is lent as a part of its lot: what is left of the others. Assumes nothing.
+-- The sections of a lot: how long each is, and what is left of the others when one is lent as a part. Assumes nothing.
 use Prim.Native.Nat.{ℕ, _+_, _-_, _≤_}
 use mathlib.Core.Path.{_≡_, refl, sym, ap, _∙_}
 use mathlib.Core.List.{List, _++_, append-assoc, append-nil}
 use native.Mathlib.Omega.{arith}
 use lib.ListN.{length, take, drop, length-append, length-drop, take-append-drop, drop-of-length-le}
 use lib.Seq.{length-take-le, take-all, take-append-le, drop-append-le, drop-drop, take-at, drop-at}
-use Rattle.lot.specs.Layout.{SIZE, recordsOf}
+use Rattle.lot.specs.Layout.{SIZE, headOf, streamsOf, placesOf, recordsOf}
 use Rattle.lot.specs.Sections.{WithHead, WithStreams, WithPlaces, WithRecords}
 
 -- n bytes from index a on are lent, and q is what they are left as
@@ -36,6 +36,27 @@ module _ (l q : List ℕ) (a n : ℕ) (room : a + n ≤ length l) (whole : lengt
       let split : (m : List ℕ) → drop (y - (a + n)) (drop (a + n) m) ≡ drop y m = λ m. drop-drop (y - (a + n)) (a + n) m ∙ rw e in
       sym (split left) ∙ ap (drop (y - (a + n))) d ∙ split l
 
+-- ---- how long each section is
+
+module _ (l : List ℕ) (size : length l ≡ SIZE) where
+  pub length-head : length (headOf l) ≡ 16
+  length-head = length-take-le 16 l (omega arith)
+
+  pub length-streams : length (streamsOf l) ≡ 64
+  length-streams = length-take-le 64 (drop 16 l) (omega (arith, length-drop 16 l))
+
+  pub length-places : length (placesOf l) ≡ 5120
+  length-places = length-take-le 5120 (drop 80 l) (omega (arith, length-drop 80 l))
+
+  pub length-records : length (recordsOf l) ≡ 5120
+  length-records = omega (arith, length-drop 5200 l)
+
+  -- the last section reaches to the end
+  pub records-part : take 5120 (drop 5200 l) ≡ recordsOf l
+  records-part = take-all 5120 (drop 5200 l) (omega (arith, length-records))
+
+-- ---- what is left of the others
+
 module _ (l q : List ℕ) (size : length l ≡ SIZE) where
   pub head-lent : length q ≡ 16 → WithHead l (q ++ drop 16 l) q
   head-lent w =
@@ -51,10 +72,6 @@ module _ (l q : List ℕ) (size : length l ≡ SIZE) where
   places-lent w =
       let b = before l q 80 5120 (omega arith) w in
       record { head = b 16 0 (omega arith); streams = b 64 16 (omega arith); places = own l q 80 5120 (omega arith) w; records = after l q 80 5120 (omega arith) w 5200 (omega arith) }
-
-  -- the last section, lent to the end
-  pub records-part : take 5120 (drop 5200 l) ≡ recordsOf l
-  records-part = take-all 5120 (drop 5200 l) (omega (arith, length-drop 5200 l))
 
   pub records-lent : length q ≡ 5120 → WithRecords l (take 5200 l ++ (q ++ drop 5120 (drop 5200 l))) q
   records-lent w =

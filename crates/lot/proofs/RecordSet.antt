@@ -6,7 +6,7 @@ use mathlib.Core.List.{List}
 use native.Mathlib.Omega.{arith}
 use lib.Dec.{eqb}
 use borrow.Author.Tests.{eq-eqb, eqb-true, leb-true}
-use lib.ListN.{length, drop, length-drop}
+use lib.ListN.{length}
 use Rattle.model.specs.Lists.{if_then_else_}
 use Rattle.model.specs.Account.{Record, absent, present, Account, accountFits, heldCount}
 use Rattle.model.specs.Accepting.{WellFormed}
@@ -15,6 +15,7 @@ use Rattle.lot.specs.Layout.{SIZE, headOf, streamsOf, placesOf, recordsO
 use Rattle.lot.specs.View.{holds, viewLot}
 use Rattle.lot.specs.Writing.{withRecord, withoutRecord, recordSet}
 use Rattle.lot.specs.Sections.{WithRecords}
+use Rattle.lot.proofs.Parts.{length-records}
 use Rattle.lot.proofs.Shown.{RecordsShow, LotShows}
 use Rattle.lot.proofs.Views.{holds-shown, holds-well-formed}
 use Rattle.lot.proofs.Changes.{sections-hold, head-same, streams-same, places-same, put-shown, delete-shown}
@@ -64,17 +65,14 @@ module _ (l m : List ℕ) (i k : ℕ) (a : Account) (size : length l ≡ SIZE) (
   unfolding accountFits
   limits = let n = nth _ (holds-well-formed l e .fits) in (leb-true (a .fragments) 8 (n 3), leb-true (a .keys) 128 (n 5))
 
-  long : length (recordsOf l) ≡ 5120
-  long = omega (arith, length-drop 5200 l)
-
   pub put-view : (v : ℕ) → v < 2 ^ 32 → WithRecords l m (withRecord (recordsOf l) i k v) → viewLot m ≡ holds (recordSet i k (present v) a)
   unfolding recordSet
   put-view v small c =
       set-held i k (present v) a l m (withRecord (recordsOf l) i k v) within inside e c
-      (put-shown (recordsOf l) i k a (recordSet i k (present v) a) long (omega (arith, limits)) (omega (arith, limits)) (limits .1) refl refl (set-other i k (present v) a) (holds-shown l e .records) v small (set-own i k (present v) a))
+      (put-shown (recordsOf l) i k a (recordSet i k (present v) a) (length-records l size) (omega (arith, limits)) (omega (arith, limits)) (limits .1) refl refl (set-other i k (present v) a) (holds-shown l e .records) v small (set-own i k (present v) a))
 
   pub delete-view : WithRecords l m (withoutRecord (recordsOf l) i k) → viewLot m ≡ holds (recordSet i k absent a)
   unfolding recordSet
   delete-view c =
       set-held i k absent a l m (withoutRecord (recordsOf l) i k) within inside e c
-      (delete-shown (recordsOf l) i k a (recordSet i k absent a) long (omega (arith, limits)) (omega (arith, limits)) (limits .1) refl refl (set-other i k absent a) (holds-shown l e .records) (set-own i k absent a))
+      (delete-shown (recordsOf l) i k a (recordSet i k absent a) (length-records l size) (omega (arith, limits)) (omega (arith, limits)) (limits .1) refl refl (set-other i k absent a) (holds-shown l e .records) (set-own i k absent a))

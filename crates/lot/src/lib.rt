@@ -8,7 +8,7 @@ ghost use Prim.Native.Nat.{_+_, _*_, _<_, _≤_};
 ghost use lib.ListN.{length, drop};
 ghost use Rattle.model.specs.Account.{accountFits, fresh};
 ghost use Rattle.model.specs.Decoding.{countersOf, same};
-ghost use Rattle.lot.specs.Layout.{SIZE, FREE, streamsOf, recordsOf};
+ghost use Rattle.lot.specs.Layout.{SIZE, FREE, headOf, streamsOf, placesOf, recordsOf};
 ghost use Rattle.lot.specs.View.{tagOf, recordAt, headFits, streamFits, allBelow, fits, viewLot, holds};
 ghost use Rattle.lot.specs.Look.{lookOf};
 ghost use Rattle.lot.specs.Sections.{WithHead, WithStreams, WithRecords};
@@ -141,6 +141,36 @@ pub fn delete_record(records: &mut [u8], i: usize, k: usize)
     records[(i * 128 + k) * 5] = 0;
 }
 
+// ---- the sections of a lot, to read
+
+pub fn head_of(lot: &[u8]) -> &[u8]
+    requires { ⌜ length (now lot) ≡ SIZE ⌝ }
+    ensures { λ r. ⌜ now r ≡ headOf (now (lot .entry)) ⌝ }
+{
+    &lot[0..16]
+}
+
+pub fn streams_of(lot: &[u8]) -> &[u8]
+    requires { ⌜ length (now lot) ≡ SIZE ⌝ }
+    ensures { λ r. ⌜ now r ≡ streamsOf (now (lot .entry)) ⌝ }
+{
+    &lot[16..80]
+}
+
+pub fn places_of(lot: &[u8]) -> &[u8]
+    requires { ⌜ length (now lot) ≡ SIZE ⌝ }
+    ensures { λ r. ⌜ now r ≡ placesOf (now (lot .entry)) ⌝ }
+{
+    &lot[80..5200]
+}
+
+pub fn records_of(lot: &[u8]) -> &[u8]
+    requires { ⌜ length (now lot) ≡ SIZE ⌝ }
+    ensures { λ r. ⌜ now r ≡ recordsOf (now (lot .entry)) ⌝ }
+{
+    &lot[5200..10320]
+}
+
 // ---- the test of a lot
 
 // Whether a head has this tag.
@@ -204,16 +234,17 @@ pub fn look_at(lot: &[u8]) -> Look
     requires { ⌜ length (now lot) ≡ SIZE ⌝ }
     ensures { λ r. ⌜ r ≡ lookOf (now (lot .entry)) ⌝ }
 {
-    if has_tag(&lot[0..16], b"FREE") {
+    let head = head_of(lot);
+    if has_tag(head, b"FREE") {
         return Look::Free;
     }
-    if !has_tag(&lot[0..16], b"OPEN") {
+    if !has_tag(head, b"OPEN") {
         return Look::Damaged;
     }
-    if !fits(&lot[0..16], &lot[16..80], &lot[80..5200]) {
+    if !fits(head, streams_of(lot), places_of(lot)) {
         return Look::Damaged;
     }
-    Look::Holds(Account::read(&lot[0..16]))
+    Look::Holds(Account::read(head))
 }
 
 // ---- writing in a lot: each function here lends one section, and the others stay

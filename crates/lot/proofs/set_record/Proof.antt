@@ -26,7 +26,7 @@ returns : tie.Need-returns
 returns c =
     let f = c .before .before .put-record in
     let a = c .before .before .before .before .before .args in
-    let e = f .ensures ∙ ap (λ r. withRecord r (a .i) (a .k) (a .value)) (records-part (a .lot .now) (f .last .0) (omega arith)) in
+    let e = f .ensures ∙ ap (λ r. withRecord r (a .i) (a .k) (a .value)) (records-part (a .lot .now) (omega arith)) in
     rw (← e) (records-lent (a .lot .now) (f .last .0) (omega arith) (omega arith))
 
 pub set-record-spec : {M : Type 1} → statement M
