@@ -1,24 +1,22 @@
 -- What a look at a lot tells the judgement, and a law for each of its answers. Assumes nothing.
 use Prim.Native.Nat.{ℕ, _+_, _*_, _<_, _≤_}
 use mathlib.Core.Path.{_≡_, refl, sym, ap, _∙_}
-use mathlib.Core.Bool.{true, false, not}
+use mathlib.Core.Bool.{true, false}
 use mathlib.Core.List.{List}
 use native.Mathlib.Omega.{arith}
-use lib.Dec.{eqb}
-use lib.ListN.{length, drop}
+use lib.ListN.{length, drop, length-drop}
+use lib.Seq.{length-take-le}
 use borrow.Author.Tests.{leb-true, eq-eqb, ne-eqb}
-use Rattle.model.specs.Entry.{LENGTH, entryOf, isMark, fits, inside}
-use Rattle.model.specs.Account.{Account, accountFits, heldCount}
-use Rattle.model.specs.Distance.{distance, belowZero, aboveZero}
+use Rattle.model.specs.Entry.{LENGTH, entryOf, fits, inside}
+use Rattle.model.specs.Account.{Held, Account, accountFits, heldCount}
 use Rattle.model.specs.Stages.{stage}
 use Rattle.model.specs.Taking.{judgeEntry, judge}
-use Rattle.model.specs.Accepting.{WellFormed}
 use Rattle.model.specs.Decoding.{countersOf, mine}
 use Rattle.model.specs.Section.{items}
 use Rattle.model.specs.declared.Entry.{Entry}
 use Rattle.model.specs.declared.Counters.{Counters}
 use Rattle.model.specs.declared.Outcome.{Outcome}
-use Rattle.model.specs.declared.Outcome.the-variants.{Done, Refused}
+use Rattle.model.specs.declared.Outcome.the-variants.{Refused}
 use Rattle.model.specs.declared.Refusal.the-variants.{WrongLength, Unfit, OutsideAccount, Seen, Gap}
 use Rattle.model.proofs.Tests.{nth}
 use Rattle.model.proofs.Judged.{own-fragment}
@@ -29,9 +27,10 @@ use Rattle.lot.specs.Layout.{streamsOf, placesOf}
 use Rattle.lot.specs.View.{holds, viewLot}
 use Rattle.lot.specs.Head.{numbersWith}
 use Rattle.lot.specs.declared.Account as numbers
+use Rattle.lot.proofs.Shown.{StreamsShow, PlacesShow}
 use Rattle.lot.proofs.Views.{holds-shown, holds-well-formed, shown-count}
 use Rattle.lot.proofs.Looked.{LooksHeld, looked-held, head-numbers-of}
-use Rattle.taking.specs.Delivering.{Looked, judgeDue, EntryJudged, Judged}
+use Rattle.taking.specs.Delivering.{Looked, judgeDue, judgeInside, EntryJudged, Judged}
 
 -- ---- the account that is held
 
@@ -40,8 +39,8 @@ pub record Known (l : List ℕ) (n : numbers.Account) (a : Account) : Type 0 whe
   pub numbers-are : n ≡ numbersWith (heldCount a) a
   pub few : a .fragments ≤ 8
   pub room : heldCount a ≤ 256
-  pub counters : (i : ℕ) → i < a .fragments → countersOf (drop (i * 8) (streamsOf l)) ≡ a .at i .counters
-  pub entries : (i : ℕ) → i < a .fragments → mine i (items (heldCount a) (placesOf l)) ≡ a .at i .held
+  pub streams : StreamsShow (streamsOf l) a
+  pub places : PlacesShow (placesOf l) (heldCount a) a
 
 module _ {l : List ℕ} {n : numbers.Account} (k : Looked l n) where
   pub known : (a : Account) → viewLot l ≡ holds a → Known l n a
@@ -56,13 +55,28 @@ module _ {l : List ℕ} {n : numbers.Account} (k : Looked l n) where
         numbers-are = h .numbers ∙ rw same;
         few = leb-true (a .fragments) 8 (nth _ (f .fits) 3);
         room = f .room;
-        counters = w .streams .counters;
-        entries = rw c (w .places .held);
+        streams = w .streams;
+        places = rw c (w .places);
       }
+
+-- ---- 7 and 8
+
+module _ (c : Counters) (hs : List Held) (n : ℕ) (e : Entry) where
+  pub seen : sequence.Seen ≡ sequenceOf (e .sequence) (c .next) → Refused Seen ≡ judgeInside c hs n e
+  unfolding judgeInside
+  seen q = let s = rw (← q) at (says (e .sequence) (c .next)) in rw s
+
+  pub gap : sequence.Gap ≡ sequenceOf (e .sequence) (c .next) → Refused Gap ≡ judgeInside c hs n e
+  unfolding judgeInside
+  gap q = let s = rw (← q) at (says (e .sequence) (c .next)) in rw (s .0, s .1)
+
+  pub due : sequence.Due ≡ sequenceOf (e .sequence) (c .next) → judgeDue (c .epoch) (stage (e .transaction) hs) n e ≡ judgeInside c hs n e
+  unfolding judgeInside
+  due q = let s = rw (← q) at (says (e .sequence) (c .next)) in rw (s .0, s .1)
 
 -- ---- 4
 
-module _ {l bytes : List ℕ} where
+module _ (l bytes : List ℕ) where
   pub wrong-length : (length bytes ≡ LENGTH → ⊥) → Judged l bytes (Refused WrongLength)
   unfolding judge
   wrong-length q a v = rw (ne-eqb (length bytes) LENGTH q)
@@ -73,7 +87,7 @@ module _ {l bytes : List ℕ} where
 
 -- ---- 5 to 11
 
-module _ {l : List ℕ} (e : Entry) where
+module _ (l : List ℕ) (e : Entry) where
   pub unfit : fits e ≡ false → EntryJudged l e (Refused Unfit)
   unfolding judgeEntry
   unfit q a v = rw q
@@ -84,37 +98,18 @@ module _ {l : List ℕ} (e : Entry) where
     outside q a v = let o = rw (known k a v .numbers-are) at q in rw (fit, o)
 
     module _ (within : inside (n .fragments) (n .keys) e ≡ true) where
-      pub limits : (e .fragment < 8) × (n .held ≤ 256)
+      pub limits : (e .fragment * 8 + 8 ≤ length (streamsOf l)) × (length (placesOf l) ≡ 5120) × (n .held ≤ 256)
       limits =
           let h = looked-held l (k .seen) in
           let w = known k (h .account) (h .holds-it) in
-          rw (w .numbers-are) (omega (arith, w .few, own-fragment _ _ e (rw (w .numbers-are) at within)), w .room)
+          let m = own-fragment _ _ e (rw (w .numbers-are) at within) in
+          let s = length-take-le 64 (drop 16 l) (omega (arith, k .size, length-drop 16 l)) in
+          (omega (arith, w .few), length-take-le 5120 (drop 80 l) (omega (arith, k .size, length-drop 80 l)), rw (w .numbers-are) (w .room))
 
-      module _ {c : Counters} (read : c ≡ countersOf (drop (e .fragment * 8) (streamsOf l))) where
-        module _ (a : Account) (v : viewLot l ≡ holds a) where
-          w : Known l n a
-          w = known k a v
-
-          inside-it : inside (a .fragments) (a .keys) e ≡ true
-          inside-it = rw (w .numbers-are) at within
-
-          here : e .fragment < a .fragments
-          here = own-fragment (a .fragments) (a .keys) e inside-it
-
-          counters-are : a .at (e .fragment) .counters ≡ c
-          counters-are = sym (read ∙ w .counters (e .fragment) here)
-
-        pub seen : sequence.Seen ≡ sequenceOf (e .sequence) (c .next) → EntryJudged l e (Refused Seen)
-        unfolding judgeEntry
-        seen q a v = let s = rw (← q) at (says (e .sequence) (c .next)) in rw (fit, inside-it a v, counters-are a v, s)
-
-        pub gap : sequence.Gap ≡ sequenceOf (e .sequence) (c .next) → EntryJudged l e (Refused Gap)
-        unfolding judgeEntry
-        gap q a v = let s = rw (← q) at (says (e .sequence) (c .next)) in rw (fit, inside-it a v, counters-are a v, s .0, s .1)
-
-        pub due : {r : Outcome} → sequence.Due ≡ sequenceOf (e .sequence) (c .next)
-            → r ≡ judgeDue (c .epoch) (stage (e .transaction) (mine (e .fragment) (items (n .held) (placesOf l)))) (n .held) e → EntryJudged l e r
-        unfolding judgeEntry judgeDue
-        due q d a v =
-            let s = rw (← q) at (says (e .sequence) (c .next)) in
-            d ∙ rw (fit, inside-it a v, counters-are a v, s .0, s .1, w a v .numbers-are, w a v .entries (e .fragment) (here a v))
+      pub judged : {r : Outcome} → r ≡ judgeInside (countersOf (drop (e .fragment * 8) (streamsOf l))) (mine (e .fragment) (items (n .held) (placesOf l))) (n .held) e → EntryJudged l e r
+      unfolding judgeEntry judgeInside judgeDue
+      judged d a v =
+          let w = known k a v in
+          let m = rw (w .numbers-are) at within in
+          let i = own-fragment (a .fragments) (a .keys) e m in
+          d ∙ rw (w .numbers-are, w .streams .counters (e .fragment) i, w .places .held (e .fragment) i, fit, m)

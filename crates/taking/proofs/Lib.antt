@@ -1,1 +1,3 @@
 pub mod Judging
+pub mod Writing
+pub mod TakenEntry

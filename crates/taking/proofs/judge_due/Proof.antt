@@ -1,7 +1,5 @@
 -- `judge_due` answers 9, 10 and 11. Assumes nothing.
-use mathlib.Core.Path.{_≡_, sym, ap, _∙_}
 use borrow.Author.Tests.{eq-eqb, ne-eqb, le-leb, lt-leb, not-true, not-false}
-use Rattle.model.specs.Stages.{takes}
 use Rattle.taking.specs.Delivering.{judgeDue}
 use borrow.Author.Needs.{needs}
 use Rattle.taking.proofs.judge_due.Statement.{statement}
@@ -25,22 +23,19 @@ returns-3 : tie.Need-returns-3
 unfolding judgeDue
 returns-3 c =
     let s = c .before .before in
-    let t = ap (takes _) (sym (s .stage-of .ensures)) ∙ sym (c .before .takes .ensures) ∙ not-true _ (c .if3 .taken) in
-    rw (ne-eqb _ _ (s .before .if1 .left), t)
+    rw (ne-eqb _ _ (s .before .if1 .left), ← s .stage-of .ensures, ← c .before .takes .ensures, not-true (c .before .takes .result) (c .if3 .taken))
 
 returns-4 : tie.Need-returns-4
 unfolding judgeDue
 returns-4 c =
     let s = c .before .before .before in
-    let t = ap (takes _) (sym (s .stage-of .ensures)) ∙ sym (c .before .before .takes .ensures) ∙ not-false _ (c .before .if3 .left) in
-    rw (ne-eqb _ _ (s .before .if1 .left), t, lt-leb 256 _ (c .if4 .taken))
+    rw (ne-eqb _ _ (s .before .if1 .left), ← s .stage-of .ensures, ← c .before .before .takes .ensures, not-false (c .before .before .takes .result) (c .before .if3 .left), lt-leb 256 _ (c .if4 .taken))
 
 returns-5 : tie.Need-returns-5
 unfolding judgeDue
 returns-5 c =
     let s = c .before .before .before in
-    let t = ap (takes _) (sym (s .stage-of .ensures)) ∙ sym (c .before .before .takes .ensures) ∙ not-false _ (c .before .if3 .left) in
-    rw (ne-eqb _ _ (s .before .if1 .left), t, le-leb 256 _ (c .if4 .left))
+    rw (ne-eqb _ _ (s .before .if1 .left), ← s .stage-of .ensures, ← c .before .before .takes .ensures, not-false (c .before .before .takes .result) (c .before .if3 .left), le-leb 256 _ (c .if4 .left))
 
 pub judge-due-spec : {M : Type 1} → statement M
 judge-due-spec =
