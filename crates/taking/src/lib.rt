@@ -9,9 +9,10 @@ ghost use Rattle.model.specs.Stages.{stage};
 ghost use Rattle.model.specs.Decoding.{countersOf, mine};
 ghost use Rattle.model.specs.Section.{items};
 ghost use Rattle.lot.specs.Layout.{SIZE, streamsOf};
-ghost use Rattle.taking.specs.Delivering.{judgeDue, judgeInside, Looked, EntryJudged, Judged, Due, StreamStepped, HeldIn, oneMore, Taken};
+ghost use Rattle.taking.specs.Delivering.{judgeDue, judgeInside, Looked, EntryJudged, Judged, Due, StreamStepped, HeldIn, oneMore, Taken, Delivered};
 use entry::Sequence;
 use lot::Account;
+use lot::Look;
 use model::Entry;
 use model::Outcome;
 use model::Refusal;
@@ -121,4 +122,35 @@ pub fn take_entry(lot: &mut [u8], account: Account, bytes: &[u8])
     }
     hold_in(lot, account.held as usize, bytes, open);
     lot::set_head(lot, one_more(account));
+}
+
+// ---- delivering
+
+// 3 to 11, of a lot that has been looked at.
+fn deliver_held(lot: &mut [u8], account: Account, number: u32, bytes: &[u8]) -> Outcome
+    requires { ⌜ Looked (now lot) account ⌝ }
+    ensures { λ r. ⌜ Delivered (now (lot .entry)) (now (lot .exit)) number (now (bytes .entry)) r ⌝ }
+{
+    if (account.number as u32) != number {
+        return Outcome::Refused(Refusal::NotThisAccount);
+    }
+    match judge_lot(lot, account, bytes) {
+        Outcome::Done => {
+            take_entry(lot, account, bytes);
+            Outcome::Done
+        }
+        Outcome::Refused(why) => Outcome::Refused(why),
+    }
+}
+
+// 2 to 11.
+pub fn deliver_lot(lot: &mut [u8], number: u32, bytes: &[u8]) -> Outcome
+    requires { ⌜ length (now lot) ≡ SIZE ⌝ }
+    ensures { λ r. ⌜ Delivered (now (lot .entry)) (now (lot .exit)) number (now (bytes .entry)) r ⌝ }
+{
+    match lot::look_at(lot) {
+        Look::Damaged => Outcome::Refused(Refusal::Damaged),
+        Look::Free => Outcome::Refused(Refusal::NotThisAccount),
+        Look::Holds(account) => deliver_held(lot, account, number, bytes),
+    }
 }
