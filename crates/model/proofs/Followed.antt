@@ -1,27 +1,26 @@
 -- The entries of a run up to the mark of its last closed epoch keep the log rules in their working form, where the primary's whole streams keep the five rules. Assumes nothing.
-use Prim.Native.Nat.{ℕ, zero, suc, _+_, _≤_, _<_}
-use mathlib.Core.Path.{_≡_, refl, sym, ap, subst, _∙_, fun-ext}
-use mathlib.Core.Logic.{_⊎_, inl, inr, _≢_}
+use Prim.Native.Nat.{ℕ, suc, _≤_, _<_}
+use mathlib.Core.Path.{_≡_, refl, sym, ap, _∙_}
+use mathlib.Core.Logic.{_⊎_, inl, inr}
 use mathlib.Core.Bool.{Bool, true, false}
-use mathlib.Core.List.{List, [], _∷_, _++_, append-assoc, append-nil, List·Memᴰ}
+use mathlib.Core.List.{List, [], _∷_, _++_, append-assoc, append-nil}
 use native.Mathlib.Omega.{arith}
 use native.Mathlib.Decide.{decLt, ℕ-discrete}
 use lib.Dec.{eqb}
-use lib.ListN.{length}
 use Rattle.model.specs.Lists.{if_then_else_}
-use Rattle.model.specs.Entry.{isMark, PUT, DELETE, P, CC, CP, A}
-use Rattle.model.specs.Account.{Held, key, coordinator, Fragment, Account, fresh, empty}
+use Rattle.model.specs.Entry.{isMark, DELETE, P, CC, A}
+use Rattle.model.specs.Account.{Held, Fragment, Account, fresh, empty}
 use Rattle.model.specs.Taking.{hold, take, taken, stepped}
 use Rattle.model.specs.Closing.{close, settle}
 use Rattle.model.specs.Runs.{Step, taking, closing, run, Allowed, log, closings}
-use Rattle.model.specs.Rules.{inEpochs, At, here, there, FirstPart, Stands, LogRules}
+use Rattle.model.specs.Rules.{inEpochs, At, here, there, Stands, LogRules}
 use Rattle.model.specs.Installed.{Follows}
 use Rattle.model.specs.declared.Entry.{Entry}
-use Rattle.model.proofs.Judged.{taken-facts, all-marked}
+use Rattle.model.proofs.Judged.{all-marked}
 use Rattle.model.proofs.Runs.{takeList, takeAll, closes, closes-closed, run-is, log-outside}
 use Rattle.model.proofs.Prefix.{closes-epoch, closes-fragments}
 use Rattle.model.proofs.Working.{In, streams, Kept, Ordered, in-at, at-in}
-use Rattle.model.proofs.Epochs.{epochAfter, InStream, in-stream, rising, at-below, at-whole, at-part, Cut, cut}
+use Rattle.model.proofs.Epochs.{epochAfter, InStream, in-stream, rising, at-below, at-whole, at-part, cut}
 use Rattle.model.proofs.TakenLog.{Tabled, tabled}
 
 -- ---- what taking makes of a fragment

@@ -1,33 +1,32 @@
 -- The second half of demand 3 for one account. Where a run follows streams that keep the five rules: a transaction is installed at all its fragments, in one close, or at none; a commit before the P or CC of an installed transaction is installed too; each record shows the latest write or deletion, in stream order, by an installed transaction. Assumes nothing.
-use Prim.Native.Nat.{ℕ, zero, suc, _+_, _≤_, _<_}
+use Prim.Native.Nat.{ℕ, suc, _+_, _≤_, _<_}
 use mathlib.Core.Path.{_≡_, refl, sym, ap, subst, _∙_, fun-ext}
-use mathlib.Core.Logic.{_⊎_, inl, inr, _≢_}
+use mathlib.Core.Logic.{_⊎_, inl, inr}
 use mathlib.Core.Bool.{Bool, true, false, _&&_}
 use mathlib.Core.List.{List, [], _∷_, _++_}
 use native.Mathlib.Omega.{arith}
 use native.Mathlib.Decide.{decLt, ℕ-discrete}
-use lib.Dec.{leb, eqb}
 use lib.ListN.{length, getD}
 use borrow.Author.Tests.{leb-true}
-use Rattle.model.specs.Lists.{if_then_else_, any}
-use Rattle.model.specs.Entry.{PUT, DELETE, P, CC, CP, A}
+use Rattle.model.specs.Lists.{any}
+use Rattle.model.specs.Entry.{PUT, DELETE, P, CC, CP}
 use Rattle.model.specs.Account.{Held, Record, absent, Account, empty, fresh}
-use Rattle.model.specs.Closing.{Piece, installed, listed, writesTo, written, afterWrites}
-use Rattle.model.specs.Runs.{Step, run, lists, log, closings}
-use Rattle.model.specs.Rules.{inEpochs, At, here, there, Stands, Is, LogRules}
+use Rattle.model.specs.Closing.{Piece, installed, listed, writesTo, afterWrites}
+use Rattle.model.specs.Runs.{Step, run, lists, log}
+use Rattle.model.specs.Rules.{inEpochs, At, Stands, Is, LogRules}
 use Rattle.model.specs.Installed.{hasPiece, listedAt, isInstalled, Follows}
 use Rattle.model.specs.declared.Entry.{Entry}
 use Rattle.model.proofs.Tests.{no-way, and-l, and-r}
 use Rattle.model.proofs.Runs.{takeAll, closes, closesLists, run-is, lists-is}
 use Rattle.model.proofs.Prefix.{takeAll-append, takeList-records, Marked, installed-prefix, records-prefix, closes-fragments}
 use Rattle.model.proofs.Working.{In, streams, Kept, Ordered, in-at, at-in}
-use Rattle.model.proofs.Together.{DecidedIn, Installed, together}
+use Rattle.model.proofs.Together.{Installed, together}
 use Rattle.model.proofs.Once.{once}
 use Rattle.model.proofs.Earlier.{earlier}
 use Rattle.model.proofs.Records.{done, done-installed, installed-done, records}
 use Rattle.model.proofs.WriteOrder.{after-none}
-use Rattle.model.proofs.Epochs.{epochAfter, InStream, in-stream, rising, inEpochs-append, at-whole, at-second}
-use Rattle.model.proofs.TakenLog.{Tabled, tabled}
+use Rattle.model.proofs.Epochs.{epochAfter, in-stream, rising, inEpochs-append, at-whole, at-second}
+use Rattle.model.proofs.TakenLog.{tabled}
 use Rattle.model.proofs.Followed.{takeList-held, takeList-epoch, start, last, all, part, L, Taken, within, stand, one-commit, kept, ordered}
 use Rattle.model.proofs.Listed.{Lists, piece-in, piece-out, list-of, list-past, installed-in, installed-out}
 

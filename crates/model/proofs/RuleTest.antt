@@ -3,16 +3,16 @@ use Prim.Native.Nat.{ℕ, zero, suc, _+_, _≤_, _<_}
 use mathlib.Core.Path.{_≡_, refl, sym, ap, _∙_}
 use mathlib.Core.Logic.{_⊎_, inl, inr, _≢_}
 use mathlib.Core.Bool.{Bool, true, false, not, _&&_, _||_}
-use mathlib.Core.List.{List, [], _∷_, _++_}
+use mathlib.Core.List.{List, [], _∷_}
 use native.Mathlib.Omega.{arith}
 use native.Mathlib.Decide.{ℕ-discrete}
 use lib.Dec.{leb, ltb, eqb}
 use lib.ListN.{getD}
 use borrow.Author.Tests.{eq-eqb, ne-eqb, eqb-true, lt-ltb, ltb-true, le-leb, leb-true}
 use Rattle.model.specs.Lists.{if_then_else_, every}
-use Rattle.model.specs.Entry.{PUT, DELETE, P, CC, CP, A, MARK}
+use Rattle.model.specs.Entry.{PUT, DELETE, P, CC, CP, A}
 use Rattle.model.specs.Account.{Held, key, coordinator}
-use Rattle.model.specs.Rules.{inEpochs, At, here, there, Stands, Is, Writes, Ends, LogRules}
+use Rattle.model.specs.Rules.{inEpochs, At, here, there, Stands, Is, Ends, LogRules}
 use Rattle.model.specs.declared.Entry.{Entry}
 use Rattle.model.proofs.Tests.{no-way, and-l, and-r, either, nth}
 

@@ -1,17 +1,17 @@
 -- What the table and the judgement give of a run's entries, with no premise on the primary: each is of a kind from 1 to 6, a P names another fragment, and before each CP stands its P. Assumes nothing.
-use Prim.Native.Nat.{ℕ, zero, suc, _+_, _≤_, _<_}
-use mathlib.Core.Path.{_≡_, refl, sym, ap, subst, _∙_}
+use Prim.Native.Nat.{ℕ, suc, _≤_, _<_}
+use mathlib.Core.Path.{_≡_, refl, sym, ap, _∙_}
 use mathlib.Core.Logic.{_⊎_, inl, inr, _≢_}
-use mathlib.Core.Bool.{Bool, true, false, not, _&&_, _||_}
+use mathlib.Core.Bool.{Bool, true, false, not, _||_}
 use mathlib.Core.List.{List, [], _∷_, _++_, append-assoc, append-nil, List·Memᴰ·head, List·Memᴰ·tail}
 use native.Mathlib.Omega.{arith}
 use lib.Dec.{leb, eqb}
 use lib.ListN.{length}
-use borrow.Author.Tests.{eqb-true, eqb-false, leb-true, eq-eqb, not-true}
+use borrow.Author.Tests.{eqb-true, eqb-false, leb-true, eq-eqb}
 use Rattle.model.specs.Lists.{if_then_else_}
-use Rattle.model.specs.Entry.{isMark, fits, fieldsFit, inside, inAccount, DELETE, P, CC, CP, A, MARK}
-use Rattle.model.specs.Account.{Held, coordinator, Fragment, Account, fresh}
-use Rattle.model.specs.Stages.{stageAfter, stageFrom, stage, isPrepared, takes}
+use Rattle.model.specs.Entry.{isMark, fits, fieldsFit, inside, inAccount, DELETE, P, CP, A, MARK}
+use Rattle.model.specs.Account.{Held, coordinator, Account, fresh}
+use Rattle.model.specs.Stages.{stageAfter, stageFrom, stage, takes}
 use Rattle.model.specs.Taking.{hold, take, taken, stepped}
 use Rattle.model.specs.Closing.{close, settle}
 use Rattle.model.specs.Runs.{Step, taking, closing, Allowed, log}
@@ -19,11 +19,11 @@ use Rattle.model.specs.Rules.{inEpochs, At, here, there}
 use Rattle.model.specs.declared.Entry.{Entry}
 use Rattle.model.specs.declared.Stage.{Stage}
 use Rattle.model.specs.declared.Stage.the-variants.{Unheard, Writing, Prepared, Ended}
-use Rattle.model.proofs.Tests.{no-way, and-r, either, nth}
+use Rattle.model.proofs.Tests.{no-way, and-r, nth}
 use Rattle.model.proofs.Judged.{TakenFacts, taken-facts}
 use Rattle.model.proofs.Working.{In, in-at, at-in}
-use Rattle.model.proofs.Survivors.{Same, Thinned, none, skip, keep, thinned-survivors, thinned-one}
-use Rattle.model.proofs.Epochs.{at-below, at-first, at-either}
+use Rattle.model.proofs.Survivors.{Thinned, none, skip, keep, thinned-survivors, thinned-one}
+use Rattle.model.proofs.Epochs.{at-below, at-first}
 
 -- ---- a transaction that is prepared has its P held
 

@@ -8,7 +8,7 @@ use native.Mathlib.Omega.{arith}
 use lib.Dec.{leb, eqb}
 use borrow.Author.Tests.{le-leb, leb-true, eqb-true, eq-eqb}
 use Rattle.model.specs.Lists.{if_then_else_, filter, any}
-use Rattle.model.specs.Entry.{DELETE, P, CC, CP, A}
+use Rattle.model.specs.Entry.{P, CC, CP, A}
 use Rattle.model.specs.Account.{Held, coordinator, Account}
 use Rattle.model.specs.Closing.{upto, is, flaggedP, unflaggedP, Verdict, free, install, flag, stay, verdict, committed, installs, flags, pieces, settle, close, installed}
 use Rattle.model.proofs.Tests.{no-way, and-l, and-r, and, either, any-append, any-filter, any-cong, any-in, any-out, any-none}

@@ -1,12 +1,12 @@
 -- What load accepts: data that ends with the image of a well-formed account.
-use Prim.Native.Nat.{ℕ, zero, suc, _+_, _<_, _≤_}
+use Prim.Native.Nat.{ℕ, _<_, _≤_}
 use mathlib.Core.Path.{_≡_}
-use mathlib.Core.Bool.{Bool, true, false, not, _&&_, _||_}
+use mathlib.Core.Bool.{Bool, true, not, _&&_, _||_}
 use mathlib.Core.List.{List, [], _∷_, _++_}
 use lib.Dec.{leb, ltb, eqb}
 use Rattle.model.specs.Lists.{every, all}
 use Rattle.model.specs.Entry.{P, CC, A, fieldsFit, inAccount}
-use Rattle.model.specs.Account.{Held, absent, Fragment, Account, empty, accountFits, heldCount, MOST-HELD}
+use Rattle.model.specs.Account.{Held, absent, Account, empty, accountFits, heldCount, MOST-HELD}
 use Rattle.model.specs.Stages.{stage, isUnheard, takes}
 use Rattle.model.specs.Image.{image}
 use Rattle.model.specs.declared.Stage.{Stage}

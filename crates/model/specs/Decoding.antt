@@ -1,13 +1,13 @@
 -- How load finds the account: the trailer is followed back, and what is read is tested. That this decides what specs/Accepting.antt says is proved.
-use Prim.Native.Nat.{ℕ, zero, suc, _+_, _*_, _-_, _<_, _≤_}
-use mathlib.Core.Bool.{Bool, true, false, not, _&&_, _||_}
+use Prim.Native.Nat.{ℕ, zero, suc, _+_, _*_, _-_}
+use mathlib.Core.Bool.{Bool, true, false, _&&_}
 use mathlib.Core.Option.{Option, some, none}
 use mathlib.Core.List.{List, [], _∷_, _++_}
 use lib.Dec.{leb, ltb, eqb}
 use lib.ListN.{length, getD, drop}
 use Rattle.wire.specs.Numbers.{number16, number32}
 use Rattle.model.specs.Lists.{if_then_else_, every, all}
-use Rattle.model.specs.Account.{Held, Record, absent, present, Fragment, Account, freshCounters, accountFits, MOST-HELD}
+use Rattle.model.specs.Account.{Held, Record, absent, present, Account, freshCounters, accountFits, MOST-HELD}
 use Rattle.model.specs.Stages.{stage}
 use Rattle.model.specs.Accepting.{entryFits, follows}
 use Rattle.model.specs.Image.{Present, Item, Form, bytes}

@@ -1,11 +1,10 @@
 -- The saved image of an account. Between account and bytes stands what the image shows, in its order.
-use Prim.Native.Nat.{ℕ, zero, suc, _+_}
-use mathlib.Core.Bool.{Bool, true, false}
+use Prim.Native.Nat.{ℕ, zero, _+_}
 use mathlib.Core.List.{List, [], _∷_, _++_, map}
 use lib.ListN.{length}
 use Rattle.wire.specs.Numbers.{bytes16, bytes32}
 use Rattle.model.specs.Lists.{upward, one}
-use Rattle.model.specs.Account.{Held, Record, absent, present, Fragment, Account}
+use Rattle.model.specs.Account.{Held, Record, absent, present, Account}
 use Rattle.model.specs.declared.Counters.{Counters}
 
 -- ---- what an image shows

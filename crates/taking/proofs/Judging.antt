@@ -1,11 +1,10 @@
 -- What a look at a lot tells the judgement, and a law for each of its answers. Assumes nothing.
-use Prim.Native.Nat.{ℕ, _+_, _*_, _<_, _≤_}
-use mathlib.Core.Path.{_≡_, refl, sym, ap, _∙_}
+use Prim.Native.Nat.{ℕ, _+_, _*_, _≤_}
+use mathlib.Core.Path.{_≡_, _∙_}
 use mathlib.Core.Bool.{true, false}
 use mathlib.Core.List.{List}
 use native.Mathlib.Omega.{arith}
-use lib.ListN.{length, drop, length-drop}
-use lib.Seq.{length-take-le}
+use lib.ListN.{length, drop}
 use borrow.Author.Tests.{leb-true, eq-eqb, ne-eqb}
 use Rattle.model.specs.Entry.{LENGTH, entryOf, fits, inside}
 use Rattle.model.specs.Account.{Held, Account, accountFits, heldCount}
@@ -28,8 +27,9 @@ use Rattle.lot.specs.View.{holds, viewLot}
 use Rattle.lot.specs.Head.{numbersWith}
 use Rattle.lot.specs.declared.Account as numbers
 use Rattle.lot.proofs.Shown.{StreamsShow, PlacesShow}
+use Rattle.lot.proofs.Lengths.{length-streams, length-places}
 use Rattle.lot.proofs.Views.{holds-shown, holds-well-formed, shown-count}
-use Rattle.lot.proofs.Looked.{LooksHeld, looked-held, head-numbers-of}
+use Rattle.lot.proofs.Looked.{looked-held}
 use Rattle.taking.specs.Delivering.{Looked, judgeDue, judgeInside, EntryJudged, Judged}
 
 -- ---- the account that is held
@@ -103,8 +103,7 @@ module _ (l : List ℕ) (e : Entry) where
           let h = looked-held l (k .seen) in
           let w = known k (h .account) (h .holds-it) in
           let m = own-fragment _ _ e (rw (w .numbers-are) at within) in
-          let s = length-take-le 64 (drop 16 l) (omega (arith, k .size, length-drop 16 l)) in
-          (omega (arith, w .few), length-take-le 5120 (drop 80 l) (omega (arith, k .size, length-drop 80 l)), rw (w .numbers-are) (w .room))
+          (omega (arith, w .few, length-streams l (k .size)), length-places l (k .size), rw (w .numbers-are) (w .room))
 
       pub judged : {r : Outcome} → r ≡ judgeInside (countersOf (drop (e .fragment * 8) (streamsOf l))) (mine (e .fragment) (items (n .held) (placesOf l))) (n .held) e → EntryJudged l e r
       unfolding judgeEntry judgeInside judgeDue

@@ -1,8 +1,8 @@
 -- An entry that is due: what may be read and written for it, and that the lot then holds the account with the entry taken. Assumes nothing.
-use Prim.Native.Nat.{ℕ, suc, _+_, _*_, _<_, _≤_, _^_}
+use Prim.Native.Nat.{ℕ, _+_, _*_, _<_, _≤_, _^_}
 use mathlib.Core.Path.{_≡_, refl, sym, ap, _∙_}
 use mathlib.Core.Bool.{Bool, true, false, not, _||_}
-use mathlib.Core.List.{List, [], _∷_, _++_}
+use mathlib.Core.List.{List}
 use native.Mathlib.Omega.{arith}
 use native.Mathlib.Decide.{ℕ-discrete}
 use lib.Dec.{leb, eqb}
@@ -11,7 +11,7 @@ use borrow.Author.Tests.{eqb-true, eq-eqb, ne-eqb, leb-true}
 use Rattle.model.specs.Lists.{if_then_else_}
 use Rattle.model.specs.Entry.{LENGTH, LAST-MARK, entryOf, isMark, fits, fieldsFit}
 use Rattle.model.specs.Account.{Account, heldCount}
-use Rattle.model.specs.Taking.{judgeEntry, judge, stepped, hold, take, taken}
+use Rattle.model.specs.Taking.{judgeEntry, judge, stepped, take, taken}
 use Rattle.model.specs.Accepting.{WellFormed}
 use Rattle.model.specs.Decoding.{countersOf, mine}
 use Rattle.model.specs.Section.{items}
@@ -23,19 +23,19 @@ use Rattle.model.proofs.Judged.{TakenFacts, taken-facts}
 use Rattle.model.proofs.Keeping.{taken-well-formed}
 use Rattle.places.specs.Places.{EntryHeld}
 use Rattle.places.proofs.Holding.{held-own, held-other, stays-sorted}
-use Rattle.lot.specs.Layout.{SIZE, headOf, streamsOf, placesOf, recordsOf}
+use Rattle.lot.specs.Layout.{streamsOf, placesOf, recordsOf}
 use Rattle.lot.specs.View.{holds, viewLot}
-use Rattle.lot.specs.Head.{numbersWith, headBytes}
-use Rattle.lot.specs.Sections.{WithHead}
+use Rattle.lot.specs.Head.{headBytes}
+use Rattle.writes.specs.Sections.{WithHead}
 use Rattle.lot.specs.Writing.{withCounters}
 use Rattle.lot.specs.declared.Account as numbers
-use Rattle.lot.proofs.Shown.{StreamsShow, PlacesShow, RecordsShow}
+use Rattle.lot.proofs.Shown.{StreamsShow, PlacesShow, RecordsShow, head-shown}
+use Rattle.lot.proofs.Lengths.{length-streams}
 use Rattle.lot.proofs.Views.{holds-shown, holds-well-formed, shown-count}
 use Rattle.lot.proofs.Looked.{looked-held}
-use Rattle.lot.proofs.Changes.{sections-hold, head-shown, head-same, places-same, records-same, counters-shown}
+use Rattle.writes.proofs.Changes.{sections-hold, head-same, places-same, records-same, counters-shown}
 use Rattle.taking.specs.Delivering.{Due, StreamStepped, HeldIn, oneMore, Taken}
 use Rattle.taking.proofs.Judging.{Known, known}
-use Rattle.taking.proofs.Writing.{length-streams}
 
 -- a mark that fits carries an epoch that a mark can carry
 mark-low : (e : Entry) → fits e ≡ true → isMark e ≡ true → e .transaction ≤ LAST-MARK

@@ -4,20 +4,17 @@ use mathlib.Core.Path.{_≡_, ap, _∙_}
 use mathlib.Core.Bool.{Bool}
 use mathlib.Core.List.{List, _++_}
 use native.Mathlib.Omega.{arith}
-use lib.ListN.{length, take, drop, length-drop}
-use lib.Seq.{length-take-le}
+use lib.ListN.{length, take, drop}
 use Rattle.model.specs.Taking.{stepped}
 use Rattle.model.specs.Decoding.{countersOf}
 use Rattle.model.specs.declared.Counters.{Counters}
 use Rattle.places.specs.Places.{EntryHeld}
 use Rattle.lot.specs.Layout.{SIZE, streamsOf, placesOf}
-use Rattle.lot.specs.Sections.{WithStreams}
+use Rattle.writes.specs.Sections.{WithStreams}
 use Rattle.lot.specs.Writing.{withCounters}
-use Rattle.lot.proofs.Parts.{places-lent}
+use Rattle.lot.proofs.Lengths.{length-streams}
+use Rattle.writes.proofs.Parts.{places-lent}
 use Rattle.taking.specs.Delivering.{StreamStepped, HeldIn}
-
-pub length-streams : (l : List ℕ) → length l ≡ SIZE → length (streamsOf l) ≡ 64
-length-streams l size = length-take-le 64 (drop 16 l) (omega (arith, length-drop 16 l))
 
 module _ (l : List ℕ) (size : length l ≡ SIZE) where
   pub streams-room : (s : List ℕ) {i : ℕ} → i < 8 → s ≡ streamsOf l → i * 8 + 8 ≤ length s

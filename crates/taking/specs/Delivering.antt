@@ -21,7 +21,7 @@ use Rattle.model.specs.declared.Refusal.the-variants.{Damaged, NotThisAccount, 
 use Rattle.places.specs.Places.{EntryHeld}
 use Rattle.lot.specs.Layout.{SIZE, streamsOf, placesOf}
 use Rattle.lot.specs.View.{Lot, free, damaged, holds, viewLot}
-use Rattle.lot.specs.Sections.{WithStreams, WithPlaces}
+use Rattle.writes.specs.Sections.{WithStreams, WithPlaces}
 use Rattle.lot.specs.Writing.{withCounters}
 use Rattle.lot.specs.Look.{lookOf}
 use Rattle.lot.specs.declared.Account as numbers

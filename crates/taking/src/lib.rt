@@ -1,5 +1,5 @@
 // Delivering one entry to one lot: one look at the lot, then the judgement, which only reads, then the write.
-// It stands on `lot`, on `places` and `lookback` for the held entries, on `entry` and on `stream`.
+// It stands on `lot` and `writes`, on `places` and `lookback` for the held entries, on `entry` and on `stream`.
 ghost use mathlib.Core.Path.{_≡_};
 ghost use mathlib.Core.Bool.{true};
 ghost use Prim.Native.Nat.{_+_, _*_, _<_, _≤_};
@@ -84,7 +84,7 @@ fn step_stream(lot: &mut [u8], i: usize, mark: bool) -> u32
     ensures { λ r. ⌜ StreamStepped (now (lot .entry)) (now (lot .exit)) i mark r ⌝ }
 {
     let c = lot::read_counters(lot::streams_of(lot), i);
-    lot::set_counters(lot, i, stream::step_counters(c.next, c.epoch, mark));
+    writes::set_counters(lot, i, stream::step_counters(c.next, c.epoch, mark));
     c.epoch
 }
 
@@ -93,7 +93,7 @@ fn hold_in(lot: &mut [u8], n: usize, bytes: &[u8], epoch: u32)
     requires { ⌜ (length (now lot) ≡ SIZE) × (n < 256) × (length (now bytes) ≡ 16) ⌝ }
     ensures { λ _. ⌜ HeldIn (now (lot .entry)) (now (lot .exit)) n (now (bytes .entry)) epoch ⌝ }
 {
-    places::hold_entry(&mut lot[80..5200], n, bytes, epoch);
+    places::hold_entry(&mut lot[lot::PLACES..lot::RECORDS], n, bytes, epoch);
 }
 
 fn one_more(account: Account) -> Account
@@ -121,7 +121,7 @@ pub fn take_entry(lot: &mut [u8], account: Account, bytes: &[u8])
         return;
     }
     hold_in(lot, account.held as usize, bytes, open);
-    lot::set_head(lot, one_more(account));
+    writes::set_head(lot, one_more(account));
 }
 
 // ---- delivering

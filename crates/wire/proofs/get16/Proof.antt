@@ -1,6 +1,4 @@
 use borrow.Author.Needs.{needs}
-use native.Mathlib.Omega.{arith}
-use lib.ListN.{length-set}
 use Rattle.wire.specs.Numbers.{number16}
 use Rattle.wire.proofs.get16.Statement.{statement}
 use Rattle.wire.proofs.get16.Tie as tie
