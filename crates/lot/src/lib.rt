@@ -216,6 +216,14 @@ pub fn look_at(lot: &[u8]) -> Look
     Look::Holds(Account::read(&lot[0..16]))
 }
 
+// The record of fragment i and key k, in a lot.
+pub fn record_of(lot: &[u8], i: usize, k: usize) -> Found
+    requires { ⌜ (length (now lot) ≡ SIZE) × (i < 8) × (k < 128) ⌝ }
+    ensures { λ r. ⌜ r ≡ foundOf (recordAt (recordsOf (now (lot .entry))) i k) ⌝ }
+{
+    read_record(&lot[5200..10320], i, k)
+}
+
 // ---- writing in a lot: each function here lends one section, and the others stay
 
 pub fn set_head(lot: &mut [u8], account: Account)

@@ -7,7 +7,7 @@ use lib.Dec.{leb, ltb, eqb}
 use lib.ListN.{length, drop}
 use Rattle.model.specs.Lists.{if_then_else_, upward}
 use Rattle.model.specs.Entry.{entryOf}
-use Rattle.model.specs.Account.{Record, absent, present, Account, accountFits, fresh, heldCount}
+use Rattle.model.specs.Account.{Account, accountFits, fresh, heldCount}
 use Rattle.model.specs.Taking.{judge, taken}
 use Rattle.model.specs.declared.Refusal.{Refusal}
 use Rattle.model.specs.declared.Refusal.the-variants.{NoSuchLot, Damaged, NotThisAccount, OutsideAccount, AlreadyOpen, NoFreeLot, UnfitAccount, TooShort}
@@ -16,9 +16,10 @@ use Rattle.model.specs.declared.Outcome.the-variants.{Done, Refused}
 use Rattle.model.specs.declared.Opened.{Opened}
 use Rattle.model.specs.declared.Opened.the-variants.{InLot, NotOpened}
 use Rattle.model.specs.declared.Found.{Found}
-use Rattle.model.specs.declared.Found.the-variants.{Present, Absent, NotRead}
+use Rattle.model.specs.declared.Found.the-variants.{NotRead}
 use Rattle.lot.specs.View.{Lot, free, damaged, holds}
-use Rattle.standby.specs.Memory.{memoryFits, lotFits, viewOf, OnlyLot, Named, refused, found, named, isDamaged, isFree, isOf, someBelow, lowestBelow}
+use Rattle.lot.specs.Writing.{foundOf}
+use Rattle.standby.specs.Memory.{memoryFits, lotFits, viewOf, OnlyLot, Becomes, Named, refused, found, named, isDamaged, isFree, isOf, someBelow, lowestBelow}
 use Rattle.standby.specs.declared.Row.{Row}
 
 -- ---- start: 1
@@ -50,7 +51,7 @@ openAnswer m lots number f k =
 
 -- lot i now holds account a, and nothing else has changed; a refusal changes nothing
 abbrev pub OpenedAs : List ℕ → List ℕ → Account → Opened → Type 0
-OpenedAs m m' a (InLot i) = OnlyLot i m m' × (viewOf m' i ≡ holds a)
+OpenedAs m m' a (InLot i) = Becomes i m m' (holds a)
 OpenedAs m m' a (NotOpened r) = m' ≡ m
 
 pub record AccountOpened (m m' : List ℕ) (lots number f k : ℕ) (r : Opened) : Type 0 where
@@ -77,15 +78,11 @@ pub record Delivered (m m' : List ℕ) (lots lot number : ℕ) (bytes : List ℕ
 
 -- ---- read: 1, 2, 3, 6; it lends its memory unchanged
 
-abbrev pub recordFound : Record → Found
-recordFound absent = Absent
-recordFound (present v) = Present v
-
 abbrev pub readFrom : Named → ℕ → ℕ → Found
 readFrom (refused r) fragment key = NotRead r
 readFrom (found a) fragment key =
     if not (ltb fragment (a .fragments) && ltb key (a .keys)) then NotRead OutsideAccount
-    else recordFound (a .at fragment .records key)
+    else foundOf (a .at fragment .records key)
 
 unfoldable pub readAnswer : List ℕ → ℕ → ℕ → ℕ → ℕ → ℕ → Found
 readAnswer m lots lot number fragment key = readFrom (named m lots lot number) fragment key
@@ -101,7 +98,7 @@ unfoldable pub dropAnswer : List ℕ → ℕ → ℕ → ℕ → Outcome
 dropAnswer m lots lot number = if not (lotFits lots lot m) then Refused NoSuchLot else dropFrom (viewOf m lot) number
 
 abbrev pub Freed : List ℕ → List ℕ → ℕ → Outcome → Type 0
-Freed m m' lot Done = OnlyLot lot m m' × (viewOf m' lot ≡ free)
+Freed m m' lot Done = Becomes lot m m' free
 Freed m m' lot (Refused r) = m' ≡ m
 
 pub record Dropped (m m' : List ℕ) (lots lot number : ℕ) (r : Outcome) : Type 0 where

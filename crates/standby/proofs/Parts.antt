@@ -1,0 +1,61 @@
+-- A lot that is lent as a part of the memory: it becomes what it is left as, and every other lot stays. Assumes nothing.
+use Prim.Native.Nat.{ℕ, _+_, _*_, _-_, _<_, _≤_}
+use mathlib.Core.Path.{_≡_, refl, sym, ap, _∙_}
+use mathlib.Core.Logic.{_≢_}
+use mathlib.Core.Bool.{true, false}
+use mathlib.Core.List.{List, _++_}
+use native.Mathlib.Omega.{arith}
+use native.Mathlib.Decide.{decLt}
+use lib.ListN.{length, take, drop, length-append, length-take, length-drop, take-append-drop}
+use lib.Seq.{take-append-le, drop-append-le, drop-drop}
+use borrow.Author.Tests.{eqb-true, leb-true, ltb-true}
+use Rattle.model.proofs.Tests.{and-l, and-r, nth}
+use Rattle.lot.specs.Layout.{SIZE}
+use Rattle.lot.specs.View.{Lot, viewLot}
+use Rattle.lot.proofs.Parts.{own, before, after}
+use Rattle.standby.specs.Memory.{memoryFits, lotFits, lotOf, viewOf, OnlyLot, Becomes}
+
+-- ---- a lot that there is lies inside the memory
+
+pub memory-long : (lots : ℕ) (m : List ℕ) → memoryFits lots m ≡ true → length m ≡ lots * SIZE
+unfolding memoryFits
+memory-long lots m fit = eqb-true (length m) (lots * SIZE) (nth _ fit 2)
+
+pub lot-below : (lots lot : ℕ) (m : List ℕ) → lotFits lots lot m ≡ true → lot < lots
+unfolding lotFits
+lot-below lots lot m fit = ltb-true lot lots (and-r (memoryFits lots m) _ fit)
+
+pub lot-inside : (lots lot : ℕ) (m : List ℕ) → lotFits lots lot m ≡ true → lot * SIZE + SIZE ≤ length m
+unfolding lotFits
+lot-inside lots lot m fit = omega (arith, memory-long lots m (and-l (memoryFits lots m) _ fit), lot-below lots lot m fit)
+
+-- ---- lending
+
+-- what a call that is lent lot i leaves of the memory m, where it leaves q of the lot
+module _ (m : List ℕ) (i : ℕ) (q : List ℕ) (inside : i * SIZE + SIZE ≤ length m) (whole : length q ≡ SIZE) where
+  abbrev pub left : List ℕ
+  left = take (i * SIZE) m ++ (q ++ drop (i * SIZE + SIZE - i * SIZE) (drop (i * SIZE) m))
+
+  pub lent : {v : Lot} → viewLot q ≡ v → Becomes i m left v
+  unfolding viewOf
+  lent e =
+      let z : i * SIZE + SIZE - i * SIZE ≡ SIZE = omega arith in
+      rw z
+      (record { long = simp (length-append, length-take, length-drop) (omega arith); before = before m q (i * SIZE) SIZE inside whole (i * SIZE) 0 (omega arith); behind = after m q (i * SIZE) SIZE inside whole (i * SIZE + SIZE) (omega arith) },
+      ap viewLot (own m q (i * SIZE) SIZE inside whole) ∙ e)
+
+-- ---- the other lots
+
+module _ {i : ℕ} {m m' : List ℕ} (w : OnlyLot i m m') where
+  front-same : (j : ℕ) → j < i → lotOf m' j ≡ lotOf m j
+  front-same j h = ?
+
+  pub others-stay : (j : ℕ) → j ≢ i → lotOf m' j ≡ lotOf m j
+  others-stay j d = go (decLt j i)
+    where
+      go : Dec (j < i) → lotOf m' j ≡ lotOf m j
+      go (yes h) = front-same j h
+      go (no h) =
+          let e : i * SIZE + SIZE + (j * SIZE - (i * SIZE + SIZE)) ≡ j * SIZE = ? in
+          let split : (l : List ℕ) → drop (j * SIZE - (i * SIZE + SIZE)) (drop (i * SIZE + SIZE) l) ≡ drop (j * SIZE) l = λ l. drop-drop (j * SIZE - (i * SIZE + SIZE)) (i * SIZE + SIZE) l ∙ rw e in
+          ap (take SIZE) (sym (split m') ∙ ap (drop (j * SIZE - (i * SIZE + SIZE))) (w .behind) ∙ split m)
