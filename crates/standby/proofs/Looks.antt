@@ -1,24 +1,27 @@
 -- What the calls learn from looks at lots is what the lots' views say. Assumes nothing.
-use Prim.Native.Nat.{ℕ, zero, suc, _+_, _*_, _≤_}
+use Prim.Native.Nat.{ℕ, zero, suc, _+_, _*_, _-_}
 use mathlib.Core.Path.{_≡_, refl, sym, ap, _∙_}
 use mathlib.Core.Bool.{Bool, true, false, not}
 use mathlib.Core.List.{List}
+use native.Mathlib.Omega.{arith}
 use lib.Dec.{eqb}
+use lib.ListN.{take, drop}
 use Rattle.model.specs.Lists.{if_then_else_}
 use Rattle.model.specs.Account as model
-use Rattle.model.specs.declared.Refusal.the-variants.{NoSuchLot}
+use Rattle.model.specs.declared.Refusal.the-variants.{NoSuchLot, NotThisAccount}
+use Rattle.model.proofs.Tests.{if-ap}
 use Rattle.lot.specs.Layout.{SIZE, headOf}
 use Rattle.lot.specs.View.{Lot, free, damaged, holds, viewLot}
 use Rattle.lot.specs.Head.{numbersOf}
 use Rattle.lot.specs.Look.{lookOf, lookAs}
 use Rattle.lot.specs.declared.Look.{Look}
 use Rattle.lot.proofs.Looked.{head-numbers-of}
-use Rattle.standby.specs.Memory.{lotFits, lotOf, viewOf, accountIn, named, someBelow, lowestBelow, isDamaged, isFree, isOf}
+use Rattle.standby.specs.Memory.{lotFits, lotOf, viewOf, accountIn, Named, refused, found, named, someBelow, lowestBelow, isDamaged, isFree, isOf}
 use Rattle.standby.specs.Looks.{numbersFrom, lookFrom, looksDamaged, looksFree, looksOf, findingIn, findingOf, surveyOf, withLook}
 use Rattle.standby.specs.declared.Finding.the-variants.{Refused}
 use Rattle.standby.specs.declared.Survey.{Survey}
 
-pub look-is : (l : List ℕ) → lookOf l ≡ lookFrom (viewLot l)
+look-is : (l : List ℕ) → lookOf l ≡ lookFrom (viewLot l)
 unfolding lookOf
 look-is l = go (viewLot l) refl
   where
@@ -27,15 +30,16 @@ look-is l = go (viewLot l) refl
     go damaged e = refl
     go (holds a) e = rw (head-numbers-of l e)
 
+pub looks : (m : List ℕ) (i : ℕ) → lookOf (take (i * SIZE + SIZE - i * SIZE) (drop (i * SIZE) m)) ≡ lookFrom (viewOf m i)
+unfolding viewOf
+looks m i = let z : i * SIZE + SIZE - i * SIZE ≡ SIZE = omega arith in rw z (look-is (lotOf m i))
+
 -- ---- a lot and an account are named
 
 finding-is : (v : Lot) (number : ℕ) → findingIn (lookFrom v) number ≡ findingOf (accountIn v number)
 finding-is free number = refl
 finding-is damaged number = refl
-finding-is (holds a) number = go (eqb (a .number) number)
-  where
-    go : (b : Bool) → _
-    go b = ?
+finding-is (holds a) number = sym (if-ap findingOf (eqb (a .number) number) (found a) (refused NotThisAccount))
 
 module _ (m : List ℕ) (lots lot number : ℕ) where
   pub not-there : lotFits lots lot m ≡ false → Refused NoSuchLot ≡ findingOf (named m lots lot number)

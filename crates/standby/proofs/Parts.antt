@@ -1,13 +1,14 @@
 -- A lot that is lent as a part of the memory: it becomes what it is left as, and every other lot stays. Assumes nothing.
-use Prim.Native.Nat.{ℕ, _+_, _*_, _-_, _<_, _≤_}
+use Prim.Native.Nat.{ℕ, zero, suc, _+_, _*_, _-_, _<_, _≤_}
 use mathlib.Core.Path.{_≡_, refl, sym, ap, _∙_}
 use mathlib.Core.Logic.{_≢_}
 use mathlib.Core.Bool.{true, false}
-use mathlib.Core.List.{List, _++_}
+use mathlib.Core.List.{List, [], _∷_, _++_}
+use native.Mathlib.Nat.{zero-add, suc-add}
 use native.Mathlib.Omega.{arith}
 use native.Mathlib.Decide.{decLt}
 use lib.ListN.{length, take, drop, length-append, length-take, length-drop, take-append-drop}
-use lib.Seq.{take-append-le, drop-append-le, drop-drop}
+use lib.Seq.{take-nil, take-take, drop-drop}
 use borrow.Author.Tests.{eqb-true, leb-true, ltb-true}
 use Rattle.model.proofs.Tests.{and-l, and-r, nth}
 use Rattle.lot.specs.Layout.{SIZE}
@@ -46,9 +47,16 @@ module _ (m : List ℕ) (i : ℕ) (q : List ℕ) (inside : i * SIZE + SIZE ≤ l
 
 -- ---- the other lots
 
+take-drop : (n b : ℕ) (l : List ℕ) → take n (drop b l) ≡ drop b (take (b + n) l)
+take-drop n zero l = rw zero-add
+take-drop n (suc b) [] = take-nil n ∙ ap (drop (suc b)) (sym (take-nil (suc b + n)))
+take-drop n (suc b) (x ∷ l) = rw suc-add (take-drop n b l)
+
 module _ {i : ℕ} {m m' : List ℕ} (w : OnlyLot i m m') where
   front-same : (j : ℕ) → j < i → lotOf m' j ≡ lotOf m j
-  front-same j h = ?
+  front-same j h =
+      let part : (l : List ℕ) → lotOf l j ≡ drop (j * SIZE) (take (j * SIZE + SIZE) (take (i * SIZE) l)) = λ l. take-drop SIZE (j * SIZE) l ∙ ap (drop (j * SIZE)) (sym (take-take (j * SIZE + SIZE) (i * SIZE) l (omega arith))) in
+      part m' ∙ ap (λ l. drop (j * SIZE) (take (j * SIZE + SIZE) l)) (w .before) ∙ sym (part m)
 
   pub others-stay : (j : ℕ) → j ≢ i → lotOf m' j ≡ lotOf m j
   others-stay j d = go (decLt j i)
@@ -56,6 +64,6 @@ module _ {i : ℕ} {m m' : List ℕ} (w : OnlyLot i m m') where
       go : Dec (j < i) → lotOf m' j ≡ lotOf m j
       go (yes h) = front-same j h
       go (no h) =
-          let e : i * SIZE + SIZE + (j * SIZE - (i * SIZE + SIZE)) ≡ j * SIZE = ? in
+          let e : i * SIZE + SIZE + (j * SIZE - (i * SIZE + SIZE)) ≡ j * SIZE = let f : i < j = omega (arith, d) in omega arith in
           let split : (l : List ℕ) → drop (j * SIZE - (i * SIZE + SIZE)) (drop (i * SIZE + SIZE) l) ≡ drop (j * SIZE) l = λ l. drop-drop (j * SIZE - (i * SIZE + SIZE)) (i * SIZE + SIZE) l ∙ rw e in
           ap (take SIZE) (sym (split m') ∙ ap (drop (j * SIZE - (i * SIZE + SIZE))) (w .behind) ∙ split m)
