@@ -1,2 +1,5 @@
 pub mod Parts
+pub mod Lowest
 pub mod Looks
+pub mod Named
+pub mod Calls

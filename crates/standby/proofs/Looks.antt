@@ -1,16 +1,14 @@
 -- What the calls learn from looks at lots is what the lots' views say. Assumes nothing.
-use Prim.Native.Nat.{ℕ, zero, suc, _+_, _*_, _-_}
+use Prim.Native.Nat.{ℕ, suc}
 use mathlib.Core.Path.{_≡_, refl, sym, ap, _∙_}
 use mathlib.Core.Bool.{Bool, true, false, not}
 use mathlib.Core.List.{List}
-use native.Mathlib.Omega.{arith}
 use lib.Dec.{eqb}
-use lib.ListN.{take, drop}
 use Rattle.model.specs.Lists.{if_then_else_}
 use Rattle.model.specs.Account as model
 use Rattle.model.specs.declared.Refusal.the-variants.{NoSuchLot, NotThisAccount}
 use Rattle.model.proofs.Tests.{if-ap}
-use Rattle.lot.specs.Layout.{SIZE, headOf}
+use Rattle.lot.specs.Layout.{headOf}
 use Rattle.lot.specs.View.{Lot, free, damaged, holds, viewLot}
 use Rattle.lot.specs.Head.{numbersOf}
 use Rattle.lot.specs.Look.{lookOf, lookAs}
@@ -20,6 +18,7 @@ use Rattle.standby.specs.Memory.{lotFits, lotOf, viewOf, accountIn, Name
 use Rattle.standby.specs.Looks.{numbersFrom, lookFrom, looksDamaged, looksFree, looksOf, findingIn, findingOf, surveyOf, withLook}
 use Rattle.standby.specs.declared.Finding.the-variants.{Refused}
 use Rattle.standby.specs.declared.Survey.{Survey}
+use Rattle.standby.proofs.Parts.{part, part-is}
 
 look-is : (l : List ℕ) → lookOf l ≡ lookFrom (viewLot l)
 unfolding lookOf
@@ -30,9 +29,9 @@ look-is l = go (viewLot l) refl
     go damaged e = refl
     go (holds a) e = rw (head-numbers-of l e)
 
-pub looks : (m : List ℕ) (i : ℕ) → lookOf (take (i * SIZE + SIZE - i * SIZE) (drop (i * SIZE) m)) ≡ lookFrom (viewOf m i)
+pub looks : (m : List ℕ) (i : ℕ) → lookOf (part m i) ≡ lookFrom (viewOf m i)
 unfolding viewOf
-looks m i = let z : i * SIZE + SIZE - i * SIZE ≡ SIZE = omega arith in rw z (look-is (lotOf m i))
+looks m i = ap lookOf (part-is m i) ∙ look-is (lotOf m i)
 
 -- ---- a lot and an account are named
 

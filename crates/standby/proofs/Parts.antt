@@ -32,18 +32,27 @@ lot-inside lots lot m fit = omega (arith, memory-long lots m (and-l (memoryFits 
 
 -- ---- lending
 
--- what a call that is lent lot i leaves of the memory m, where it leaves q of the lot
-module _ (m : List ℕ) (i : ℕ) (q : List ℕ) (inside : i * SIZE + SIZE ≤ length m) (whole : length q ≡ SIZE) where
+-- the part of the memory that is lent as lot i
+abbrev pub part : List ℕ → ℕ → List ℕ
+part m i = take (i * SIZE + SIZE - i * SIZE) (drop (i * SIZE) m)
+
+pub part-is : (m : List ℕ) (i : ℕ) → part m i ≡ lotOf m i
+part-is m i = let z : i * SIZE + SIZE - i * SIZE ≡ SIZE = omega arith in rw z
+
+-- what is left of the memory m, where q is left of lot i
+module _ (m : List ℕ) (i : ℕ) (q : List ℕ) (inside : i * SIZE + SIZE ≤ length m) (kept : length q ≡ length (part m i)) where
   abbrev pub left : List ℕ
   left = take (i * SIZE) m ++ (q ++ drop (i * SIZE + SIZE - i * SIZE) (drop (i * SIZE) m))
 
   pub lent : {v : Lot} → viewLot q ≡ v → Becomes i m left v
   unfolding viewOf
   lent e =
-      let z : i * SIZE + SIZE - i * SIZE ≡ SIZE = omega arith in
+      let a = i * SIZE in
+      let z : a + SIZE - a ≡ SIZE = omega arith in
+      let whole : length q ≡ SIZE = kept ∙ simp (length-take, length-drop) (omega arith) in
       rw z
-      (record { long = simp (length-append, length-take, length-drop) (omega arith); before = before m q (i * SIZE) SIZE inside whole (i * SIZE) 0 (omega arith); behind = after m q (i * SIZE) SIZE inside whole (i * SIZE + SIZE) (omega arith) },
-      ap viewLot (own m q (i * SIZE) SIZE inside whole) ∙ e)
+      (record { long = simp (length-append, length-take, length-drop) (omega arith); before = before m q a SIZE inside whole a 0 (omega arith); behind = after m q a SIZE inside whole (a + SIZE) (omega arith) },
+      ap viewLot (own m q a SIZE inside whole) ∙ e)
 
 -- ---- the other lots
 

@@ -27,11 +27,19 @@ use Rattle.standby.specs.declared.Row.{Row}
 unfoldable pub startAnswer : List ℕ → ℕ → Outcome
 startAnswer m lots = if memoryFits lots m then Done else Refused NoSuchLot
 
+-- each of the first n lots is free
+pub record AllFree (n : ℕ) (m m' : List ℕ) : Type 0 where
+  pub long : length m' ≡ length m
+  pub each : (i : ℕ) → i < n → viewOf m' i ≡ free
+
+-- every lot is free; a refusal changes nothing
+abbrev pub FreedAll : List ℕ → List ℕ → ℕ → Outcome → Type 0
+FreedAll m m' lots Done = AllFree lots m m'
+FreedAll m m' lots (Refused r) = m' ≡ m
+
 pub record Started (m m' : List ℕ) (lots : ℕ) (r : Outcome) : Type 0 where
   pub answer : r ≡ startAnswer m lots
-  pub kept : memoryFits lots m ≡ false → m' ≡ m
-  pub long : length m' ≡ length m
-  pub all-free : memoryFits lots m ≡ true → (i : ℕ) → i < lots → viewOf m' i ≡ free
+  pub freed : FreedAll m m' lots r
 
 -- ---- open: 1, 2, 15, 13, 14; the free lot with the lowest number
 
@@ -112,17 +120,21 @@ rowOf free = record { account = 0; closed = 0; held = 0; damaged = 0 }
 rowOf damaged = record { account = 0; closed = 0; held = 0; damaged = 1 }
 rowOf (holds a) = record { account = a .number; closed = a .closed; held = heldCount a; damaged = 0 }
 
-unfoldable pub overviewAnswer : List ℕ → ℕ → List Row → Outcome
-overviewAnswer m lots rows =
+-- n: how many rows are lent
+unfoldable pub overviewAnswer : List ℕ → ℕ → ℕ → Outcome
+overviewAnswer m lots n =
     if not (memoryFits lots m) then Refused NoSuchLot
-    else if ltb (length rows) lots then Refused TooShort
+    else if ltb n lots then Refused TooShort
     else Done
 
--- one row for each lot; later rows stay, and a refusal changes nothing
-unfoldable pub overviewRows : List ℕ → ℕ → List Row → Outcome → List Row
-overviewRows m lots rows Done = upward lots 0 (λ i. rowOf (viewOf m i) ∷ []) ++ drop lots rows
-overviewRows m lots rows (Refused r) = rows
+-- one row for each lot is filled in, and none where it is refused; later rows stay
+abbrev pub rowsFor : ℕ → Outcome → ℕ
+rowsFor lots Done = lots
+rowsFor lots (Refused r) = 0
+
+abbrev pub rowsWith : List ℕ → List Row → ℕ → List Row
+rowsWith m rows n = upward n 0 (λ i. rowOf (viewOf m i) ∷ []) ++ drop n rows
 
 pub record Overviewed (m : List ℕ) (lots : ℕ) (rows rows' : List Row) (r : Outcome) : Type 0 where
-  pub answer : r ≡ overviewAnswer m lots rows
-  pub filled : rows' ≡ overviewRows m lots rows r
+  pub answer : r ≡ overviewAnswer m lots (length rows)
+  pub filled : rows' ≡ rowsWith m rows (rowsFor lots r)

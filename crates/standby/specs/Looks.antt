@@ -6,6 +6,8 @@ use lib.Dec.{eqb}
 use Rattle.model.specs.Lists.{if_then_else_}
 use Rattle.model.specs.Account as model
 use Rattle.model.specs.declared.Refusal.the-variants as refusal
+use Rattle.model.specs.declared.Opened.{Opened}
+use Rattle.model.specs.declared.Opened.the-variants.{InLot, NotOpened}
 use Rattle.lot.specs.View.{Lot, free, damaged, holds}
 use Rattle.lot.specs.Head.{numbersWith}
 use Rattle.lot.specs.declared.Account.{Account}
@@ -78,3 +80,7 @@ withLook s i l number = record {
   free = s .free || looksFree l;
   lowest = if s .free then s .lowest else i;
 }
+
+-- 13 and 14 of a call that opens an account, from a survey of all lots
+abbrev pub placeIn : Survey → Opened
+placeIn s = if s .known then NotOpened refusal.AlreadyOpen else if s .free then InLot (s .lowest) else NotOpened refusal.NoFreeLot
