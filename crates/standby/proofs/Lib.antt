@@ -3,3 +3,4 @@ pub mod Lowest
 pub mod Looks
 pub mod Named
 pub mod Calls
+pub mod Rows

@@ -11,7 +11,7 @@ ghost use Rattle.lot.specs.View.{recordAt, free, holds};
 ghost use Rattle.lot.specs.Writing.{foundOf};
 ghost use Rattle.standby.specs.Memory.{memoryFits, lotFits, lotOf, viewOf, Becomes, named};
 ghost use Rattle.standby.specs.Looks.{lookFrom, looksDamaged, looksFree, looksOf, rowFrom, findingIn, findingOf, surveyOf, withLook, placeIn};
-ghost use Rattle.standby.specs.Calls.{AllFree, Started, openAnswer, AccountOpened, readAnswer, Dropped, rowOf, overviewAnswer, rowsFor};
+ghost use Rattle.standby.specs.Calls.{AllFree, Started, openAnswer, AccountOpened, readAnswer, Dropped, rowOf, overviewAnswer, rowsFor, Overviewed};
 use model::Found;
 use model::Opened;
 use model::Outcome;
@@ -339,4 +339,19 @@ fn rows_due(memory: &[u8], lots: u32, rows: usize) -> usize
         Outcome::Done => lots as usize,
         Outcome::Refused(_) => 0,
     }
+}
+
+// The desk lends one row for each lot, and the call fills them in.
+pub fn overview(memory: &[u8], lots: u32, rows: &mut [Row]) -> Outcome
+    ensures { λ r. ⌜ Overviewed (now (memory .entry)) lots (now (rows .entry)) (now (rows .exit)) r ⌝ }
+{
+    let lent = rows.len();
+    let n = rows_due(memory, lots, lent);
+    let mut i: usize = 0;
+    while i < n {
+        let row = row_at(memory, i);
+        rows[i] = row;
+        i += 1;
+    }
+    overview_answer(memory, lots, lent)
 }
