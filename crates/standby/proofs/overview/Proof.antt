@@ -370,9 +370,9 @@ module _ {M : Type 1} (𝓤 : URA M) (H : Heap 𝓤) (A : Atoms 𝓤) (W : Given
           keep ! (0 ∷ 1 ∷ 2 ∷ 3 ∷ 7 ∷ 5 ∷ 8 ∷ 9 ∷ 10 ∷ 11 ∷ 12 ∷ 13 ∷ 14 ∷ 15 ∷ 16 ∷ 17 ∷ 18 ∷ 19 ∷ 20 ∷ 21 ∷ 22 ∷ 23 ∷ 24 ∷ 25 ∷ 26 ∷ 27 ∷ 28 ∷ 29 ∷ []) $ by ! (starts (is .1))))))
 
   -- the MIR up to there: the parameters, and how many rows are lent
-  walked-in : (𝓣 : Tables 𝓤 H) → Triple 𝓤 (𝓣 .C #standby·rows-due) (RowsDue 𝓤 H A at-mem run) → Triple 𝓤 (𝓣 .C #standby·row-at) (RowAt 𝓤 H A at-mem run) → Triple 𝓤 (𝓣 .C #standby·answer) (Answer 𝓤 H A at-mem run) → Room R (length ys) → Room u8 (length ms)
+  walk : (𝓣 : Tables 𝓤 H) → Triple 𝓤 (𝓣 .C #standby·rows-due) (RowsDue 𝓤 H A at-mem run) → Triple 𝓤 (𝓣 .C #standby·row-at) (RowAt 𝓤 H A at-mem run) → Triple 𝓤 (𝓣 .C #standby·answer) (Answer 𝓤 H A at-mem run) → Room R (length ys) → Room u8 (length ms)
       → ent 𝓤 (onEntry 𝓤 H A f.signature (κ′, (κ, tt)) (q′, (q, tt)) a at) (WpFn 𝓤 H (𝓣 .C) (𝓣 .Λ) function (u ∷ vint w32 L ∷ s ∷ []) Post)
-  walked-in 𝓣 known-due known-row known-answer g g′ =
+  walk 𝓣 known-due known-row known-answer g g′ =
       qed W ((‵ (flft κ′ q′) ⊛ ‵ (flft κ q) ⊛ ‵ ftrue) ∷ ‵ (owns (ShrSlice (named 0) κ′ u8 ∷ u32 ∷ MutSlice (named 1) κ R ∷ []) a at) ∷ []) ∵ enter ! (𝓣 .C) (𝓣 .Λ) function (u ∷ vint w32 L ∷ s ∷ []) _ $
       alloc1 ! (λ l₀. alloc1 ! (λ l₁. alloc1 ! (λ l₂. alloc1 ! (λ l₃. alloc1 ! (λ l₄. alloc1 ! (λ l₅. alloc1 ! (λ l₆. alloc1 ! (λ l₇. alloc1 ! (λ l₈. alloc1 ! (λ l₉. alloc1 ! (λ l₁₀. alloc0 ! $ params1 ! $
       pass1 ! (init ! 18 refl (tt, (tt, (record { fits = g′ .0 }, tt)))) $ pass1 ! (init ! 16 refl (tt, record { fits = L-fits })) $ pass1 ! (init ! 14 refl (tt, (tt, (record { fits = g .0 }, tt)))) $ pass0 ! $
@@ -381,10 +381,6 @@ module _ {M : Type 1} (𝓤 : URA M) (H : Heap 𝓤) (A : Atoms 𝓤) (W : Given
       move ! (23 ∷ []) $ fsplit ! $ use1 W (‵ Own ⊛ ‵ Own) (shr-slice-copy 𝓤 H A W (named 0) κ′ u8 .twice m (u ∷ [])) $ split ! $ move ! (2 ∷ []) $ fsplit ! $ drop ! $ fsplit ! $ move ! (26 ∷ []) $ split3 ! $
       -- [memory's token; rows's; true; what rows owns; true; what the memory owns, twice; _10; …; _9; …; .. ; _1; …; room for _0; …]
       keep ! (0 ∷ 5 ∷ 6 ∷ 1 ∷ 3 ∷ 15 ∷ 13 ∷ 11 ∷ 9 ∷ 7 ∷ 21 ∷ 25 ∷ 17 ∷ 23 ∷ 19 ∷ 27 ∷ 28 ∷ 26 ∷ 24 ∷ 22 ∷ 20 ∷ 18 ∷ 16 ∷ 14 ∷ 12 ∷ 10 ∷ 8 ∷ []) $ by ! (opened 𝓣 g l₀ l₁ l₂ l₃ l₄ l₅ l₆ l₇ l₈ l₉ l₁₀ known-row known-answer known-due))))))))))))
-
-  walk : (𝓣 : Tables 𝓤 H) → Triple 𝓤 (𝓣 .C #standby·rows-due) (RowsDue 𝓤 H A at-mem run) → Triple 𝓤 (𝓣 .C #standby·row-at) (RowAt 𝓤 H A at-mem run) → Triple 𝓤 (𝓣 .C #standby·answer) (Answer 𝓤 H A at-mem run) → Room R (length ys) → Room u8 (length ms)
-      → ent 𝓤 (onEntry 𝓤 H A f.signature (κ′, (κ, tt)) (q′, (q, tt)) a at) (WpFn 𝓤 H (𝓣 .C) (𝓣 .Λ) code.function (u ∷ vint w32 L ∷ s ∷ []) Post)
-  walk = walked-in
 
 module _ {M : Type 1} (𝓤 : URA M) (H : Heap 𝓤) (A : Atoms 𝓤) (W : Given 𝓤 H A) (at-mem : Memory → SProp 𝓤) (run : Routine → Fun 𝓤) (𝓣 : Tables 𝓤 H) (known-due : Triple 𝓤 (𝓣 .C #standby·rows-due) (RowsDue 𝓤 H A at-mem run)) (known-row : Triple 𝓤 (𝓣 .C #standby·row-at) (RowAt 𝓤 H A at-mem run)) (known-answer : Triple 𝓤 (𝓣 .C #standby·answer) (Answer 𝓤 H A at-mem run)) where
   overview-walks : Walks 𝓤 H A f.ended stayed (WpFn 𝓤 H (𝓣 .C) (𝓣 .Λ) code.function) (f.clauses 𝓤 H A at-mem run)
