@@ -79,6 +79,7 @@ module _ (m : List ℕ) (lots number f k : ℕ) where
   -- where an account is opened there is such a lot, and the account fits
   pub record Opening (i : ℕ) : Type 0 where
     pub inside : i * SIZE + SIZE ≤ length m
+    pub was-free : isFree (viewOf m i) ≡ true
     pub fits : accountFits number f k ≡ true
     pub small : (number < 2 ^ 16) × (f < 2 ^ 8) × (k < 2 ^ 16)
 
@@ -100,8 +101,10 @@ module _ (m : List ℕ) (lots number f k : ℕ) where
       go true false true false false x y z e = no-way cc
       go true false true false true x y z e =
           let s : low ≡ i = cc in
+          let w = lowest (λ j. isFree (viewOf m j)) lots z in
           record {
-            inside = omega (arith, memory-long lots m x, lowest (λ j. isFree (viewOf m j)) lots z .below);
+            inside = omega (arith, memory-long lots m x, w .below);
+            was-free = rw (← s) (w .passes);
             fits = y;
             small = (omega (arith, leb-true number 65535 (nth _ y 1)), omega (arith, leb-true f 8 (nth _ y 3)), omega (arith, leb-true k 128 (nth _ y 5)));
           }

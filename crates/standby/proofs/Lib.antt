@@ -4,3 +4,5 @@ pub mod Looks
 pub mod Named
 pub mod Calls
 pub mod Rows
+pub mod Determined
+pub mod Isolated
