@@ -7,7 +7,7 @@ use lib.Dec.{leb, ltb, eqb}
 use lib.ListN.{length, drop}
 use Rattle.model.specs.Lists.{if_then_else_, upward}
 use Rattle.model.specs.Entry.{entryOf}
-use Rattle.model.specs.Account.{Record, absent, present, Account, accountFits, fresh, heldCount}
+use Rattle.model.specs.Account.{Account, accountFits, fresh, heldCount}
 use Rattle.model.specs.Taking.{judge, taken}
 use Rattle.model.specs.declared.Refusal.{Refusal}
 use Rattle.model.specs.declared.Refusal.the-variants.{NoSuchLot, Damaged, NotThisAccount, OutsideAccount, AlreadyOpen, NoFreeLot, UnfitAccount, TooShort}
@@ -16,9 +16,10 @@ use Rattle.model.specs.declared.Outcome.the-variants.{Done, Refused}
 use Rattle.model.specs.declared.Opened.{Opened}
 use Rattle.model.specs.declared.Opened.the-variants.{InLot, NotOpened}
 use Rattle.model.specs.declared.Found.{Found}
-use Rattle.model.specs.declared.Found.the-variants.{Present, Absent, NotRead}
+use Rattle.model.specs.declared.Found.the-variants.{NotRead}
 use Rattle.lot.specs.View.{Lot, free, damaged, holds}
-use Rattle.standby.specs.Memory.{memoryFits, lotFits, viewOf, OnlyLot, Named, refused, found, named, isDamaged, isFree, isOf, someBelow, lowestBelow}
+use Rattle.lot.specs.Writing.{foundOf}
+use Rattle.standby.specs.Memory.{memoryFits, lotFits, viewOf, OnlyLot, Becomes, Named, refused, found, named, isDamaged, isFree, isOf, someBelow, lowestBelow}
 use Rattle.standby.specs.declared.Row.{Row}
 
 -- ---- start: 1
@@ -26,11 +27,19 @@ use Rattle.standby.specs.declared.Row.{Row}
 unfoldable pub startAnswer : List ℕ → ℕ → Outcome
 startAnswer m lots = if memoryFits lots m then Done else Refused NoSuchLot
 
+-- each of the first n lots is free
+pub record AllFree (n : ℕ) (m m' : List ℕ) : Type 0 where
+  pub long : length m' ≡ length m
+  pub each : (i : ℕ) → i < n → viewOf m' i ≡ free
+
+-- every lot is free; a refusal changes nothing
+abbrev pub FreedAll : List ℕ → List ℕ → ℕ → Outcome → Type 0
+FreedAll m m' lots Done = AllFree lots m m'
+FreedAll m m' lots (Refused r) = m' ≡ m
+
 pub record Started (m m' : List ℕ) (lots : ℕ) (r : Outcome) : Type 0 where
   pub answer : r ≡ startAnswer m lots
-  pub kept : memoryFits lots m ≡ false → m' ≡ m
-  pub long : length m' ≡ length m
-  pub all-free : memoryFits lots m ≡ true → (i : ℕ) → i < lots → viewOf m' i ≡ free
+  pub freed : FreedAll m m' lots r
 
 -- ---- open: 1, 2, 15, 13, 14; the free lot with the lowest number
 
@@ -50,7 +59,7 @@ openAnswer m lots number f k =
 
 -- lot i now holds account a, and nothing else has changed; a refusal changes nothing
 abbrev pub OpenedAs : List ℕ → List ℕ → Account → Opened → Type 0
-OpenedAs m m' a (InLot i) = OnlyLot i m m' × (viewOf m' i ≡ holds a)
+OpenedAs m m' a (InLot i) = Becomes i m m' (holds a)
 OpenedAs m m' a (NotOpened r) = m' ≡ m
 
 pub record AccountOpened (m m' : List ℕ) (lots number f k : ℕ) (r : Opened) : Type 0 where
@@ -77,15 +86,11 @@ pub record Delivered (m m' : List ℕ) (lots lot number : ℕ) (bytes : List ℕ
 
 -- ---- read: 1, 2, 3, 6; it lends its memory unchanged
 
-abbrev pub recordFound : Record → Found
-recordFound absent = Absent
-recordFound (present v) = Present v
-
 abbrev pub readFrom : Named → ℕ → ℕ → Found
 readFrom (refused r) fragment key = NotRead r
 readFrom (found a) fragment key =
     if not (ltb fragment (a .fragments) && ltb key (a .keys)) then NotRead OutsideAccount
-    else recordFound (a .at fragment .records key)
+    else foundOf (a .at fragment .records key)
 
 unfoldable pub readAnswer : List ℕ → ℕ → ℕ → ℕ → ℕ → ℕ → Found
 readAnswer m lots lot number fragment key = readFrom (named m lots lot number) fragment key
@@ -101,7 +106,7 @@ unfoldable pub dropAnswer : List ℕ → ℕ → ℕ → ℕ → Outcome
 dropAnswer m lots lot number = if not (lotFits lots lot m) then Refused NoSuchLot else dropFrom (viewOf m lot) number
 
 abbrev pub Freed : List ℕ → List ℕ → ℕ → Outcome → Type 0
-Freed m m' lot Done = OnlyLot lot m m' × (viewOf m' lot ≡ free)
+Freed m m' lot Done = Becomes lot m m' free
 Freed m m' lot (Refused r) = m' ≡ m
 
 pub record Dropped (m m' : List ℕ) (lots lot number : ℕ) (r : Outcome) : Type 0 where
@@ -115,17 +120,21 @@ rowOf free = record { account = 0; closed = 0; held = 0; damaged = 0 }
 rowOf damaged = record { account = 0; closed = 0; held = 0; damaged = 1 }
 rowOf (holds a) = record { account = a .number; closed = a .closed; held = heldCount a; damaged = 0 }
 
-unfoldable pub overviewAnswer : List ℕ → ℕ → List Row → Outcome
-overviewAnswer m lots rows =
+-- n: how many rows are lent
+unfoldable pub overviewAnswer : List ℕ → ℕ → ℕ → Outcome
+overviewAnswer m lots n =
     if not (memoryFits lots m) then Refused NoSuchLot
-    else if ltb (length rows) lots then Refused TooShort
+    else if ltb n lots then Refused TooShort
     else Done
 
--- one row for each lot; later rows stay, and a refusal changes nothing
-unfoldable pub overviewRows : List ℕ → ℕ → List Row → Outcome → List Row
-overviewRows m lots rows Done = upward lots 0 (λ i. rowOf (viewOf m i) ∷ []) ++ drop lots rows
-overviewRows m lots rows (Refused r) = rows
+-- one row for each lot is filled in, and none where it is refused; later rows stay
+abbrev pub rowsFor : ℕ → Outcome → ℕ
+rowsFor lots Done = lots
+rowsFor lots (Refused r) = 0
+
+abbrev pub rowsWith : List ℕ → List Row → ℕ → List Row
+rowsWith m rows n = upward n 0 (λ i. rowOf (viewOf m i) ∷ []) ++ drop n rows
 
 pub record Overviewed (m : List ℕ) (lots : ℕ) (rows rows' : List Row) (r : Outcome) : Type 0 where
-  pub answer : r ≡ overviewAnswer m lots rows
-  pub filled : rows' ≡ overviewRows m lots rows r
+  pub answer : r ≡ overviewAnswer m lots (length rows)
+  pub filled : rows' ≡ rowsWith m rows (rowsFor lots r)

@@ -35,6 +35,10 @@ pub record OnlyLot (i : ℕ) (m m' : List ℕ) : Type 0 where
   pub before : take (i * SIZE) m' ≡ take (i * SIZE) m
   pub behind : drop (i * SIZE + SIZE) m' ≡ drop (i * SIZE + SIZE) m
 
+-- lot i has become v, and nothing else has changed
+abbrev pub Becomes : ℕ → List ℕ → List ℕ → Lot → Type 0
+Becomes i m m' v = OnlyLot i m m' × (viewOf m' i ≡ v)
+
 -- ---- 1, 2, 3: what a call that names a lot and an account finds
 
 pub data Named : Type 0 where
@@ -71,7 +75,7 @@ unfoldable pub someBelow : (ℕ → Bool) → ℕ → Bool
 someBelow p zero = false
 someBelow p (suc n) = someBelow p n || p n
 
--- the lowest number below n that passes, and n if none does
+-- the lowest number below n that passes, where one does
 unfoldable pub lowestBelow : (ℕ → Bool) → ℕ → ℕ
 lowestBelow p zero = 0
-lowestBelow p (suc n) = if someBelow p n then lowestBelow p n else if p n then n else suc n
+lowestBelow p (suc n) = if someBelow p n then lowestBelow p n else n
