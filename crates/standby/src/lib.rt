@@ -1,6 +1,6 @@
 // Lots in lent memory, and the calls. What each call owes stands in specs/Calls.antt.
 // A call finds its lot, looks at it once, decides, and only then writes, in that lot alone: the lot is lent on as a part of the memory.
-// It stands on `lot`, which alone knows a lot's bytes, and on `model`.
+// It stands on `lot`, on `taking`, which delivers to one lot, and on `model`.
 ghost use mathlib.Core.Path.{_≡_};
 ghost use mathlib.Core.Bool.{true};
 ghost use Prim.Native.Nat.{_+_, _*_, _≤_, _<_};
@@ -9,9 +9,9 @@ ghost use Rattle.model.specs.Account.{accountFits, fresh, MOST-FRAGMENTS, MOST-
 ghost use Rattle.lot.specs.Layout.{SIZE, recordsOf};
 ghost use Rattle.lot.specs.View.{recordAt, free, holds};
 ghost use Rattle.lot.specs.Writing.{foundOf};
-ghost use Rattle.standby.specs.Memory.{memoryFits, lotFits, lotOf, viewOf, Becomes, named};
+ghost use Rattle.standby.specs.Memory.{memoryFits, lotFits, lotOf, viewOf, Becomes, accountIn, named};
 ghost use Rattle.standby.specs.Looks.{lookFrom, looksDamaged, looksFree, looksOf, rowFrom, findingIn, findingOf, surveyOf, withLook, placeIn};
-ghost use Rattle.standby.specs.Calls.{AllFree, Started, openAnswer, AccountOpened, readAnswer, Dropped, rowOf, overviewAnswer, rowsFor, Overviewed};
+ghost use Rattle.standby.specs.Calls.{AllFree, Started, openAnswer, AccountOpened, deliverTo, TakenBy, Delivered, readAnswer, Dropped, rowOf, overviewAnswer, rowsFor, Overviewed};
 use model::Found;
 use model::Opened;
 use model::Outcome;
@@ -234,6 +234,26 @@ pub fn open_account(memory: &mut [u8], lots: u32, account: u32, fragments: u32, 
         }
         Opened::NotOpened(r) => Opened::NotOpened(r),
     }
+}
+
+// ---- deliver
+
+fn deliver_in(memory: &mut [u8], lot: usize, account: u32, entry: &[u8]) -> Outcome
+    requires { ⌜ lot * SIZE + SIZE ≤ length (now memory) ⌝ }
+    ensures { λ r. ⌜ (r ≡ deliverTo (accountIn (viewOf (now (memory .entry)) lot) account) (now (entry .entry))) × TakenBy (now (memory .entry)) (now (memory .exit)) lot (now (entry .entry)) r ⌝ }
+{
+    let a = lot * lot::SIZE;
+    let e = a + lot::SIZE;
+    taking::deliver_lot(&mut memory[a..e], account, entry)
+}
+
+pub fn deliver(memory: &mut [u8], lots: u32, lot: u32, account: u32, entry: &[u8]) -> Outcome
+    ensures { λ r. ⌜ Delivered (now (memory .entry)) (now (memory .exit)) lots lot account (now (entry .entry)) r ⌝ }
+{
+    if !lot_fits(memory, lots, lot) {
+        return Outcome::Refused(Refusal::NoSuchLot);
+    }
+    deliver_in(memory, lot as usize, account, entry)
 }
 
 // ---- read

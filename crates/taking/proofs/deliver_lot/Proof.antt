@@ -1,5 +1,5 @@
 -- `deliver_lot` looks once, and answers what the lot means. Assumes nothing.
-use mathlib.Core.Path.{_≡_, sym, _∙_}
+use mathlib.Core.Path.{sym, _∙_}
 use Rattle.taking.proofs.Answers.{damaged, free}
 use borrow.Author.Needs.{needs}
 use Rattle.taking.proofs.deliver_lot.Statement.{statement}

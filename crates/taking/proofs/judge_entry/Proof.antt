@@ -1,5 +1,5 @@
 -- `judge_entry` answers what the account that the lot holds judges of the entry. Assumes nothing.
-use mathlib.Core.Path.{_≡_, sym, _∙_}
+use mathlib.Core.Path.{sym, _∙_}
 use borrow.Author.Tests.{not-true, not-false}
 use Rattle.taking.proofs.Judging.{unfit, outside, limits, judged}
 use borrow.Author.Needs.{needs}

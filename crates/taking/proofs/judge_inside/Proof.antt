@@ -1,5 +1,5 @@
 -- `judge_inside` answers 7 to 11. Assumes nothing.
-use mathlib.Core.Path.{_≡_, sym, _∙_}
+use mathlib.Core.Path.{sym, _∙_}
 use Rattle.taking.proofs.Judging.{seen, gap, due}
 use borrow.Author.Needs.{needs}
 use Rattle.taking.proofs.judge_inside.Statement.{statement}

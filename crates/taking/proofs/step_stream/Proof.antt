@@ -1,5 +1,4 @@
 -- `step_stream` steps the counters of one stream, and the other sections stay. Assumes nothing.
-use mathlib.Core.Path.{_≡_}
 use native.Mathlib.Omega.{arith}
 use Rattle.taking.proofs.Writing.{streams-room, stream-stepped}
 use borrow.Author.Needs.{needs}

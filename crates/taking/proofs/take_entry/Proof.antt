@@ -1,5 +1,4 @@
 -- `take_entry` leaves the lot holding the account with the entry taken. Assumes nothing.
-use mathlib.Core.Path.{_≡_}
 use native.Mathlib.Omega.{arith}
 use Rattle.taking.proofs.TakenEntry.{limits, marked, held}
 use borrow.Author.Needs.{needs}
