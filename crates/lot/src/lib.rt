@@ -259,3 +259,11 @@ pub fn look_at(lot: &[u8]) -> Look
     }
     Look::Holds(Account::read(head))
 }
+
+// The record of fragment i and key k, in a lot.
+pub fn record_of(lot: &[u8], i: usize, k: usize) -> Found
+    requires { ⌜ (length (now lot) ≡ SIZE) × (i < 8) × (k < 128) ⌝ }
+    ensures { λ r. ⌜ r ≡ foundOf (recordAt (recordsOf (now (lot .entry))) i k) ⌝ }
+{
+    read_record(records_of(lot), i, k)
+}

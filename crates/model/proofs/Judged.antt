@@ -39,7 +39,7 @@ and-fails : (b c : Bool) → (b && c) ≡ false → b ≡ true → c ≡ false
 and-fails true c q p = q
 and-fails false c q p = no-way p
 
-own-fragment : (f k : ℕ) (e : Entry) → inside f k e ≡ true → e .fragment < f
+pub own-fragment : (f k : ℕ) (e : Entry) → inside f k e ≡ true → e .fragment < f
 unfolding inside inAccount
 own-fragment f k e w = ltb-true (e .fragment) f (nth _ w 0)
 

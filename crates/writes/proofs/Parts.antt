@@ -10,25 +10,25 @@ use Rattle.writes.specs.Sections.{WithHead, WithStreams, WithPlaces, Wit
 
 -- n bytes from index a on are lent, and q is what they are left as
 module _ (l q : List ℕ) (a n : ℕ) (room : a + n ≤ length l) (whole : length q ≡ n) where
-  abbrev left : List ℕ
+  abbrev pub left : List ℕ
   left = take a l ++ (q ++ drop n (drop a l))
 
   front : length (take a l) ≡ a
   front = length-take-le a l (omega arith)
 
-  own : take n (drop a left) ≡ q
+  pub own : take n (drop a left) ≡ q
   own = rw (drop-at (take a l) (q ++ drop n (drop a l)) a front) (take-at q (drop n (drop a l)) n whole)
 
   last : a + n ≡ length l → drop a left ≡ q
   last e = drop-at (take a l) (q ++ drop n (drop a l)) a front ∙ rw (drop-of-length-le (drop a l) {i = n} (omega (arith, length-drop a l))) (append-nil q)
 
-  before : (x y : ℕ) → y + x ≤ a → take x (drop y left) ≡ take x (drop y l)
+  pub before : (x y : ℕ) → y + x ≤ a → take x (drop y left) ≡ take x (drop y l)
   before x y h =
       let cut : (t : List ℕ) → take x (drop y (take a l ++ t)) ≡ take x (drop y (take a l)) = λ t.
             ap (take x) (drop-append-le y (take a l) t (omega (arith, front))) ∙ take-append-le x (drop y (take a l)) t (omega (arith, front, length-drop y (take a l))) in
       cut (q ++ drop n (drop a l)) ∙ sym (cut (drop a l)) ∙ rw (take-append-drop a l)
 
-  after : (y : ℕ) → a + n ≤ y → drop y left ≡ drop y l
+  pub after : (y : ℕ) → a + n ≤ y → drop y left ≡ drop y l
   after y h =
       let e : a + n + (y - (a + n)) ≡ y = omega arith in
       let d : drop (a + n) left ≡ drop (a + n) l =

@@ -1,0 +1,78 @@
+-- Each contract determines what its call owes: two results that satisfy it are equal in the answer, in the named account, in every byte outside the lot, and in the rows. Assumes nothing.
+use Prim.Native.Nat.{ℕ, _<_}
+use mathlib.Core.Path.{_≡_, refl, sym, ap, _∙_}
+use mathlib.Core.List.{List}
+use lib.ListN.{length}
+use Rattle.model.specs.Account.{Account, fresh}
+use Rattle.model.specs.Entry.{entryOf}
+use Rattle.model.specs.Taking.{taken}
+use Rattle.model.specs.declared.Outcome.{Outcome}
+use Rattle.model.specs.declared.Outcome.the-variants.{Done, Refused}
+use Rattle.model.specs.declared.Opened.{Opened}
+use Rattle.model.specs.declared.Opened.the-variants.{InLot, NotOpened}
+use Rattle.model.specs.declared.Refusal.{Refusal}
+use Rattle.model.proofs.Tests.{no-way}
+use Rattle.lot.specs.View.{Lot, holds}
+use Rattle.standby.specs.Memory.{viewOf, OnlyLot, Becomes, Named, refused, found, named}
+use Rattle.standby.specs.Calls.{AllFree, FreedAll, Started, OpenedAs, AccountOpened, deliverTo, deliverAnswer, TakenBy, Delivered, Freed, Dropped, Overviewed}
+use Rattle.standby.specs.declared.Row.{Row}
+use Rattle.standby.proofs.Named.{holder}
+
+-- two memories have the same bytes outside lot i, and the same account there
+abbrev pub Alike : ℕ → List ℕ → List ℕ → Type 0
+Alike i m₁ m₂ = Becomes i m₁ m₂ (viewOf m₁ i)
+
+alike : {i : ℕ} {m m₁ m₂ : List ℕ} → OnlyLot i m m₁ → OnlyLot i m m₂ → viewOf m₂ i ≡ viewOf m₁ i → Alike i m₁ m₂
+alike u w v = (record { long = w .long ∙ sym (u .long); before = w .before ∙ sym (u .before); behind = w .behind ∙ sym (u .behind) }, v)
+
+both-become : {i : ℕ} {m m₁ m₂ : List ℕ} {v : Lot} → Becomes i m m₁ v → Becomes i m m₂ v → Alike i m₁ m₂
+both-become u w = alike (u .0) (w .0) (w .1 ∙ sym (u .1))
+
+-- two memories after calls that name a lot, by the answer: a refusal leaves what was there
+abbrev pub SameAfter : ℕ → Outcome → List ℕ → List ℕ → Type 0
+SameAfter lot Done m₁ m₂ = Alike lot m₁ m₂
+SameAfter lot (Refused r) m₁ m₂ = m₂ ≡ m₁
+
+-- the same for start, which writes in all lots
+abbrev pub SameStart : ℕ → Outcome → List ℕ → List ℕ → Type 0
+SameStart lots Done m₁ m₂ = (length m₂ ≡ length m₁) × ((i : ℕ) → i < lots → viewOf m₂ i ≡ viewOf m₁ i)
+SameStart lots (Refused r) m₁ m₂ = m₂ ≡ m₁
+
+-- the same for open, which answers the lot
+abbrev pub SameOpen : Opened → List ℕ → List ℕ → Type 0
+SameOpen (InLot i) m₁ m₂ = Alike i m₁ m₂
+SameOpen (NotOpened r) m₁ m₂ = m₂ ≡ m₁
+
+module _ {m m₁ m₂ : List ℕ} where
+  pub started-same : {lots : ℕ} {r₁ r₂ : Outcome} → Started m m₁ lots r₁ → Started m m₂ lots r₂ → (r₂ ≡ r₁) × SameStart lots r₁ m₁ m₂
+  started-same {lots} {r₁} u w = let e = w .answer ∙ sym (u .answer) in (e, go r₁ (u .freed) (rw e at (w .freed)))
+    where
+      go : (r : Outcome) → FreedAll m m₁ lots r → FreedAll m m₂ lots r → SameStart lots r m₁ m₂
+      go Done u w = (w .long ∙ sym (u .long), λ i h. w .each i h ∙ sym (u .each i h))
+      go (Refused r) u w = w ∙ sym u
+
+  pub opened-same : {lots number f k : ℕ} {r₁ r₂ : Opened} → AccountOpened m m₁ lots number f k r₁ → AccountOpened m m₂ lots number f k r₂ → (r₂ ≡ r₁) × SameOpen r₁ m₁ m₂
+  opened-same {lots} {number} {f} {k} {r₁} u w = let e = w .answer ∙ sym (u .answer) in (e, go r₁ (u .opened) (rw e at (w .opened)))
+    where
+      go : (r : Opened) → OpenedAs m m₁ (fresh number f k) r → OpenedAs m m₂ (fresh number f k) r → SameOpen r m₁ m₂
+      go (InLot i) u w = both-become u w
+      go (NotOpened r) u w = w ∙ sym u
+
+  pub delivered-same : {lots lot number : ℕ} {bytes : List ℕ} {r₁ r₂ : Outcome} → Delivered m m₁ lots lot number bytes r₁ → Delivered m m₂ lots lot number bytes r₂ → (r₂ ≡ r₁) × SameAfter lot r₁ m₁ m₂
+  unfolding deliverAnswer
+  delivered-same {lots} {lot} {number} {bytes} {r₁} u w = let e = w .answer ∙ sym (u .answer) in (e, go r₁ (named m lots lot number) refl (u .answer) (u .taken) (rw e at (w .taken)))
+    where
+      go : (r : Outcome) (n : Named) → named m lots lot number ≡ n → r ≡ deliverTo n bytes → TakenBy m m₁ lot bytes r → TakenBy m m₂ lot bytes r → SameAfter lot r m₁ m₂
+      go Done (refused s) q e u w = no-way cc
+      go Done (found a) q e u w = let h = holder m lots lot number q .held in alike (u .0) (w .0) (w .1 a h ∙ sym (u .1 a h))
+      go (Refused r) n q e u w = w ∙ sym u
+
+  pub dropped-same : {lots lot number : ℕ} {r₁ r₂ : Outcome} → Dropped m m₁ lots lot number r₁ → Dropped m m₂ lots lot number r₂ → (r₂ ≡ r₁) × SameAfter lot r₁ m₁ m₂
+  dropped-same {lots} {lot} {number} {r₁} u w = let e = w .answer ∙ sym (u .answer) in (e, go r₁ (u .freed) (rw e at (w .freed)))
+    where
+      go : (r : Outcome) → Freed m m₁ lot r → Freed m m₂ lot r → SameAfter lot r m₁ m₂
+      go Done u w = both-become u w
+      go (Refused r) u w = w ∙ sym u
+
+pub overviewed-same : {m : List ℕ} {lots : ℕ} {rows rows₁ rows₂ : List Row} {r₁ r₂ : Outcome} → Overviewed m lots rows rows₁ r₁ → Overviewed m lots rows rows₂ r₂ → (r₂ ≡ r₁) × (rows₂ ≡ rows₁)
+overviewed-same u w = let e = w .answer ∙ sym (u .answer) in (e, (rw e at (w .filled)) ∙ sym (u .filled))

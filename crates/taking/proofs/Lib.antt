@@ -1,0 +1,4 @@
+pub mod Judging
+pub mod Writing
+pub mod TakenEntry
+pub mod Answers
