@@ -17,7 +17,7 @@ use model::Entry;
 use model::Outcome;
 use model::Refusal;
 
-// 9, 10, 11
+// Refusals 9, 10 and 11, of an entry that is due.
 fn judge_due(places: &[u8], held: u16, open: u32, e: Entry) -> Outcome
     requires { ⌜ (length (now places) ≡ 5120) × (held ≤ 256) ⌝ }
     ensures { λ r. ⌜ r ≡ judgeDue «open» (stage (e .transaction) (mine (e .fragment) (items held (now (places .entry))))) held e ⌝ }
@@ -38,7 +38,7 @@ fn judge_due(places: &[u8], held: u16, open: u32, e: Entry) -> Outcome
     Outcome::Refused(Refusal::Full)
 }
 
-// 7 to 11
+// Refusals 7 to 11, of an entry inside its account.
 fn judge_inside(streams: &[u8], places: &[u8], held: u16, e: Entry) -> Outcome
     requires { ⌜ (e .fragment * 8 + 8 ≤ length (now streams)) × (length (now places) ≡ 5120) × (held ≤ 256) ⌝ }
     ensures { λ r. ⌜ r ≡ judgeInside (countersOf (drop (e .fragment * 8) (now (streams .entry)))) (mine (e .fragment) (items held (now (places .entry)))) held e ⌝ }
@@ -51,7 +51,7 @@ fn judge_inside(streams: &[u8], places: &[u8], held: u16, e: Entry) -> Outcome
     }
 }
 
-// 5 to 11, of a lot that has been looked at.
+// Refusals 5 to 11, of a lot that has been looked at.
 fn judge_entry(lot: &[u8], account: Account, e: Entry) -> Outcome
     requires { ⌜ Looked (now lot) account ⌝ }
     ensures { λ r. ⌜ EntryJudged (now (lot .entry)) e r ⌝ }
@@ -65,7 +65,7 @@ fn judge_entry(lot: &[u8], account: Account, e: Entry) -> Outcome
     judge_inside(lot::streams_of(lot), lot::places_of(lot), account.held, e)
 }
 
-// 4 to 11.
+// Refusals 4 to 11.
 pub fn judge_lot(lot: &[u8], account: Account, bytes: &[u8]) -> Outcome
     requires { ⌜ Looked (now lot) account ⌝ }
     ensures { λ r. ⌜ Judged (now (lot .entry)) (now (bytes .entry)) r ⌝ }
@@ -96,6 +96,7 @@ fn hold_in(lot: &mut [u8], n: usize, bytes: &[u8], epoch: u32)
     places::hold_entry(&mut lot[lot::PLACES..lot::RECORDS], n, bytes, epoch);
 }
 
+// The numbers of an account that holds one entry more.
 fn one_more(account: Account) -> Account
     requires { ⌜ account .held < 256 ⌝ }
     ensures { λ r. ⌜ r ≡ oneMore account ⌝ }
@@ -126,7 +127,7 @@ pub fn take_entry(lot: &mut [u8], account: Account, bytes: &[u8])
 
 // ---- delivering
 
-// 3 to 11, of a lot that has been looked at.
+// Refusals 3 to 11, of a lot that has been looked at.
 fn deliver_held(lot: &mut [u8], account: Account, number: u32, bytes: &[u8]) -> Outcome
     requires { ⌜ Looked (now lot) account ⌝ }
     ensures { λ r. ⌜ Delivered (now (lot .entry)) (now (lot .exit)) number (now (bytes .entry)) r ⌝ }
@@ -143,7 +144,7 @@ fn deliver_held(lot: &mut [u8], account: Account, number: u32, bytes: &[u8]) -> 
     }
 }
 
-// 2 to 11.
+// Refusals 2 to 11, then the write.
 pub fn deliver_lot(lot: &mut [u8], number: u32, bytes: &[u8]) -> Outcome
     requires { ⌜ length (now lot) ≡ SIZE ⌝ }
     ensures { λ r. ⌜ Delivered (now (lot .entry)) (now (lot .exit)) number (now (bytes .entry)) r ⌝ }
