@@ -91,7 +91,7 @@ pub fn stage_after(kind: u8) -> Stage
     }
 }
 
-fn is_unheard(s: Stage) -> bool
+pub fn is_unheard(s: Stage) -> bool
     ensures { λ r. ⌜ r ≡ isUnheard s ⌝ }
 {
     match s {

@@ -6,16 +6,15 @@ use mathlib.Core.List.{List, [], _∷_, _++_, append-nil}
 use native.Mathlib.Omega.{arith}
 use native.Mathlib.Nat.{add-assoc, suc-mul}
 use lib.Dec.{eqb}
-use lib.ListN.{getD, drop}
+use lib.ListN.{length, getD, drop}
 use lib.Seq.{getD-drop, drop-drop}
 use Rattle.wire.specs.Numbers.{number16, number32}
 use Rattle.model.specs.Lists.{if_then_else_}
-use Rattle.model.specs.Account.{Held}
 use Rattle.model.specs.Decoding.{itemOf, parse, mine}
 use Rattle.model.specs.Stages.{stageAfter, stageFrom, stage}
-use Rattle.model.specs.declared.Stage.{Stage}
 use Rattle.model.specs.declared.Stage.the-variants.{Unheard}
 use Rattle.model.proofs.Tests.{if-ap}
+use Rattle.model.proofs.KeptByClose.{stage-snoc}
 use Rattle.model.proofs.Forms.{mine-append}
 use Rattle.lookback.specs.Places.{itemAt, items, stageAt}
 use Rattle.lookback.specs.Last.{lastWith, isOf}
@@ -54,12 +53,20 @@ module _ {X : Type 0} (size : ℕ) (dec : List ℕ → X) where
       let z : size + n * size ≡ suc n * size = omega (arith, suc-mul n size) in
       rw (parse-more n (drop size l), drop-drop (n * size) size l, z)
 
--- ---- the stage of a transaction is what its last entry makes
+  pub length-parse : (n : ℕ) (l : List ℕ) → length (parse n size dec l) ≡ n
+  unfolding parse
+  length-parse zero l = refl
+  length-parse (suc n) l = ap suc (length-parse n (drop size l))
 
-stage-more : (t : ℕ) (s : Stage) (hs : List Held) (h : Held) → stageFrom t s (hs ++ h ∷ []) ≡ (if eqb (h .transaction) t then stageAfter (h .kind) else stageFrom t s hs)
-unfolding stageFrom
-stage-more t s [] h = refl
-stage-more t s (x ∷ hs) h = stage-more t _ hs h
+  pub getD-parse : (d : X) (n : ℕ) (l : List ℕ) (i : ℕ) → i < n → getD (parse n size dec l) i d ≡ dec (drop (i * size) l)
+  unfolding parse
+  getD-parse d zero l i h = absurd (omega arith)
+  getD-parse d (suc n) l zero h = let z : 0 * size ≡ 0 = omega arith in rw z
+  getD-parse d (suc n) l (suc i) h =
+      let z : size + i * size ≡ suc i * size = omega (arith, suc-mul i size) in
+      getD-parse d n (drop size l) i (omega arith) ∙ rw (drop-drop (i * size) size l, z)
+
+-- ---- the stage of a transaction is what its last entry makes
 
 pub stage-last : (h : List ℕ) (s t n : ℕ) → stage t (mine s (items n h)) ≡ stageAt h (lastWith (isOf h s t) n)
 unfolding parse mine stageFrom lastWith stageAt isOf
@@ -68,7 +75,7 @@ stage-last h s t (suc n) = ap (λ xs. stage t (mine s xs)) (parse-more 20 itemOf
   where
     go : (b : Bool) → stage t (mine s (items n h)) ≡ stageAt h (lastWith (isOf h s t) n)
         → stage t (mine s (items n h) ++ (if b then itemAt h n .entry ∷ [] else [])) ≡ stageAt h (if b && eqb (itemAt h n .entry .transaction) t then suc n else lastWith (isOf h s t) n)
-    go true ih = stage-more t Unheard (mine s (items n h)) (itemAt h n .entry) ∙ rw ih (sym (if-ap (stageAt h) (eqb (itemAt h n .entry .transaction) t) (suc n) (lastWith (isOf h s t) n)))
+    go true ih = stage-snoc t Unheard (mine s (items n h)) (itemAt h n .entry) ∙ rw ih (sym (if-ap (stageAt h) (eqb (itemAt h n .entry .transaction) t) (suc n) (lastWith (isOf h s t) n)))
     go false ih = rw (append-nil (mine s (items n h))) ih
 
 pub stage-made : (h : List ℕ) (m : ℕ) → 0 < m → stageAt h m ≡ stageAfter (itemAt h (m - 1) .entry .kind)

@@ -25,7 +25,7 @@ In h hs = List·Memᴰ h hs
 
 -- ---- the stage of a transaction
 
-stage-snoc : (t : ℕ) (s : Stage) (hs : List Held) (h : Held) → stageFrom t s (hs ++ h ∷ []) ≡ (if eqb (h .transaction) t then stageAfter (h .kind) else stageFrom t s hs)
+pub stage-snoc : (t : ℕ) (s : Stage) (hs : List Held) (h : Held) → stageFrom t s (hs ++ h ∷ []) ≡ (if eqb (h .transaction) t then stageAfter (h .kind) else stageFrom t s hs)
 unfolding stageFrom
 stage-snoc t s [] h = refl
 stage-snoc t s (x ∷ hs) h = stage-snoc t _ hs h

@@ -152,3 +152,8 @@ pub every-append : (xs ys : List Bool) → every (xs ++ ys) ≡ (every xs && eve
 unfolding every
 every-append [] ys = refl
 every-append (x ∷ xs) ys = rw (every-append xs ys) (sym (and-assoc x (every xs) (every ys)))
+
+pub all-weaken : {X : Type 0} (p q : X → Bool) → ((x : X) → p x ≡ true → q x ≡ true) → (xs : List X) → all p xs ≡ true → all q xs ≡ true
+unfolding all
+all-weaken p q f [] a = a
+all-weaken p q f (x ∷ xs) a = and (f x (and-l (p x) _ a)) (all-weaken p q f xs (and-r (p x) _ a))

@@ -1,0 +1,4 @@
+pub mod Layout
+pub mod View
+pub mod Head
+pub mod Writing

@@ -1,0 +1,174 @@
+// One lot's bytes, in four sections: head, streams, places and records. What they mean stands in specs/View.antt.
+// Each reader and writer takes one section; the functions on a whole lot lend the sections as parts of it.
+// It stands on `wire`, `model` and `held`, whose test of the places is a part of the damage test.
+ghost use mathlib.Core.Path.{_≡_};
+ghost use Prim.Native.Nat.{_+_, _*_, _<_, _≤_};
+ghost use lib.ListN.{length, drop};
+ghost use Rattle.model.specs.Account.{accountFits};
+ghost use Rattle.model.specs.Decoding.{countersOf, same};
+ghost use Rattle.lot.specs.View.{tagOf, recordAt, headFits, streamFits, allBelow};
+ghost use Rattle.lot.specs.Head.{numbersOf, freshNumbers, headBytes};
+ghost use Rattle.lot.specs.Writing.{withCounters, withRecord, withoutRecord, foundOf};
+use model::Counters;
+use model::Found;
+
+// The numbers of an account, as the head of its lot has them.
+pub struct Account {
+    pub number: u16,
+    pub fragments: u8,
+    pub keys: u16,
+    pub held: u16,
+    pub closed: u32,
+}
+
+impl Account {
+    pub const MOST_NUMBER: u32 = 65535;
+
+    pub const MOST_FRAGMENTS: u32 = 8;
+
+    pub const MOST_KEYS: u32 = 128;
+
+    pub const MOST_HELD: u16 = 256;
+
+    // Those of an account that is opened.
+    pub fn fresh(number: u16, fragments: u8, keys: u16) -> Account
+        ensures { λ r. ⌜ r ≡ freshNumbers number fragments keys ⌝ }
+    {
+        Account {
+            number,
+            fragments,
+            keys,
+            held: 0,
+            closed: 0,
+        }
+    }
+
+    // Those in a head.
+    pub fn read(head: &[u8]) -> Account
+        requires { ⌜ 16 ≤ length (now head) ⌝ }
+        ensures { λ r. ⌜ r ≡ numbersOf (now (head .entry)) ⌝ }
+    {
+        Account {
+            number: wire::get16(head, 4),
+            fragments: head[6],
+            keys: wire::get16(head, 8),
+            held: wire::get16(head, 10),
+            closed: wire::get32(head, 12),
+        }
+    }
+}
+
+// Refusal 15.
+pub fn account_fits(number: u32, fragments: u32, keys: u32) -> bool
+    ensures { λ r. ⌜ r ≡ accountFits number fragments keys ⌝ }
+{
+    (1 <= number)
+        & (number <= Account::MOST_NUMBER)
+        & (1 <= fragments)
+        & (fragments <= Account::MOST_FRAGMENTS)
+        & (1 <= keys)
+        & (keys <= Account::MOST_KEYS)
+}
+
+// ---- sections
+
+// Writes the head of an open lot.
+pub fn write_head(head: &mut [u8], account: Account)
+    requires { ⌜ length (now head) ≡ 16 ⌝ }
+    ensures { λ _. ⌜ now (head .exit) ≡ headBytes account ⌝ }
+{
+    bytes::copy(b"OPEN", head);
+    wire::put16(head, 4, account.number);
+    wire::put16(head, 6, account.fragments as u16);
+    wire::put16(head, 8, account.keys);
+    wire::put16(head, 10, account.held);
+    wire::put32(head, 12, account.closed);
+}
+
+// The counters of stream i.
+pub fn read_counters(streams: &[u8], i: usize) -> Counters
+    requires { ⌜ i * 8 + 8 ≤ length (now streams) ⌝ }
+    ensures { λ r. ⌜ r ≡ countersOf (drop (i * 8) (now (streams .entry))) ⌝ }
+{
+    Counters {
+        next: wire::get16(streams, i * 8),
+        epoch: wire::get32(streams, i * 8 + 4),
+    }
+}
+
+pub fn write_counters(streams: &mut [u8], i: usize, c: Counters)
+    requires { ⌜ i * 8 + 8 ≤ length (now streams) ⌝ }
+    ensures { λ _. ⌜ now (streams .exit) ≡ withCounters (now (streams .entry)) i c ⌝ }
+{
+    wire::put16(streams, i * 8, c.next);
+    wire::put16(streams, i * 8 + 2, 0);
+    wire::put32(streams, i * 8 + 4, c.epoch);
+}
+
+// The record of fragment i and key k.
+pub fn read_record(records: &[u8], i: usize, k: usize) -> Found
+    requires { ⌜ (length (now records) ≡ 5120) × (i < 8) × (k < 128) ⌝ }
+    ensures { λ r. ⌜ r ≡ foundOf (recordAt (now (records .entry)) i k) ⌝ }
+{
+    let at = (i * 128 + k) * 5;
+    if records[at] == 0 {
+        Found::Absent
+    } else {
+        Found::Present(wire::get32(records, at + 1))
+    }
+}
+
+pub fn put_record(records: &mut [u8], i: usize, k: usize, value: u32)
+    requires { ⌜ (length (now records) ≡ 5120) × (i < 8) × (k < 128) ⌝ }
+    ensures { λ _. ⌜ now (records .exit) ≡ withRecord (now (records .entry)) i k value ⌝ }
+{
+    let at = (i * 128 + k) * 5;
+    records[at] = 1;
+    wire::put32(records, at + 1, value);
+}
+
+pub fn delete_record(records: &mut [u8], i: usize, k: usize)
+    requires { ⌜ (length (now records) ≡ 5120) × (i < 8) × (k < 128) ⌝ }
+    ensures { λ _. ⌜ now (records .exit) ≡ withoutRecord (now (records .entry)) i k ⌝ }
+{
+    records[(i * 128 + k) * 5] = 0;
+}
+
+// ---- the test of a lot
+
+// Whether a head has this tag.
+fn has_tag(head: &[u8], tag: &[u8]) -> bool
+    requires { ⌜ (length (now head) ≡ 16) × (length (now tag) ≡ 4) ⌝ }
+    ensures { λ r. ⌜ r ≡ same (tagOf (now (head .entry))) (now (tag .entry)) ⌝ }
+{
+    (head[0] == tag[0]) & (head[1] == tag[1]) & (head[2] == tag[2]) & (head[3] == tag[3])
+}
+
+fn head_fits(head: &[u8]) -> bool
+    requires { ⌜ 16 ≤ length (now head) ⌝ }
+    ensures { λ r. ⌜ r ≡ headFits (now (head .entry)) ⌝ }
+{
+    let a = Account::read(head);
+    account_fits(a.number as u32, a.fragments as u32, a.keys as u32) & (head[7] == 0) & (a.held <= Account::MOST_HELD)
+}
+
+fn stream_fits(streams: &[u8], i: usize, closed: u32) -> bool
+    requires { ⌜ i * 8 + 8 ≤ length (now streams) ⌝ }
+    ensures { λ r. ⌜ r ≡ streamFits closed (now (streams .entry)) i ⌝ }
+{
+    (wire::get16(streams, i * 8 + 2) == 0) & (closed < wire::get32(streams, i * 8 + 4))
+}
+
+// The first n streams.
+fn streams_fit(streams: &[u8], n: usize, closed: u32) -> bool
+    requires { ⌜ n * 8 ≤ length (now streams) ⌝ }
+    ensures { λ r. ⌜ r ≡ allBelow (streamFits closed (now (streams .entry))) n ⌝ }
+{
+    let mut ok = true;
+    let mut i: usize = 0;
+    while i < n {
+        ok = ok & stream_fits(streams, i, closed);
+        i += 1;
+    }
+    ok
+}
