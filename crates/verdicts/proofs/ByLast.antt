@@ -221,11 +221,11 @@ unfolding isOf
 own h s t k z = (eqb-true _ _ (and-l _ _ z), eqb-true _ _ (and-r (eqb (itemAt h k .stream) s) _ z))
 
 module _ (h : List ℕ) (n : ℕ) (o : Orderly h n) where
-  abbrev Later : ℕ → ℕ → Type 0
+  abbrev pub Later : ℕ → ℕ → Type 0
   Later a b = (itemAt h a .stream ≤ itemAt h b .stream) × (itemAt h a .stream ≡ itemAt h b .stream → itemAt h a .entry .epoch ≤ itemAt h b .entry .epoch)
 
   -- by stream, then epoch
-  later : (a b : ℕ) → a ≤ b → b < n → Later a b
+  pub later : (a b : ℕ) → a ≤ b → b < n → Later a b
   later a zero l u = let z : a ≡ 0 = omega arith in rw z (omega arith, λ e. omega arith)
   later a (suc b) l u = go (ℕ-discrete a (suc b)) (later a b)
     where
