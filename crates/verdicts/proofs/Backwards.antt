@@ -19,7 +19,7 @@ use Rattle.verdicts.specs.Orderly.{Orderly}
 use Rattle.verdicts.specs.Verdicts.{verdictAt, numberOf, numberAt, lookedAt, deciderAt, Deciders, deciderOf, Known, decides, decidedBy}
 use Rattle.verdicts.proofs.ByLast.{own, verdict-by}
 
-last-reaches : (p : ℕ → Bool) (n a : ℕ) → a < n → p a ≡ true → suc a ≤ lastWith p n
+pub last-reaches : (p : ℕ → Bool) (n a : ℕ) → a < n → p a ≡ true → suc a ≤ lastWith p n
 unfolding lastWith
 last-reaches p zero a l e = absurd (omega arith)
 last-reaches p (suc n) a l e = go (p n) refl (ℕ-discrete a n) (λ u. last-reaches p n a u e)
