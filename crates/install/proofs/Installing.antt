@@ -33,7 +33,7 @@ module _ (h : List ℕ) (s : ℕ) where
   length-with l p [] = refl
   length-with l p (i ∷ is) = length-with _ (suc p) is ∙ simp length-set
 
-  after-append : (is js : List ℕ) (k : ℕ) (y : Record) → afterPieces h (is ++ js) k y ≡ afterPieces h js k (afterPieces h is k y)
+  pub after-append : (is js : List ℕ) (k : ℕ) (y : Record) → afterPieces h (is ++ js) k y ≡ afterPieces h js k (afterPieces h is k y)
   unfolding afterPieces
   after-append [] js k y = refl
   after-append (i ∷ is) js k y = after-append is js k _

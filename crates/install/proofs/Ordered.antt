@@ -32,7 +32,7 @@ module _ (h : List ℕ) where
   unfolding isOf
   own-self i = rw (eq-eqb (itemAt h i .stream) (itemAt h i .stream) refl, eq-eqb (itemAt h i .entry .transaction) (itemAt h i .entry .transaction) refl)
 
-  same-own : (i a : ℕ) → ownOf h i a ≡ true → ownOf h a ≡ ownOf h i
+  pub same-own : (i a : ℕ) → ownOf h i a ≡ true → ownOf h a ≡ ownOf h i
   same-own i a w =
       let r = own h (itemAt h i .stream) (itemAt h i .entry .transaction) a w in
       ap (λ s. isOf h s (itemAt h a .entry .transaction)) (r .0) ∙ ap (isOf h (itemAt h i .stream)) (r .1)
@@ -100,7 +100,7 @@ next-own h next n i a w l u t =
 
 -- ---- a transaction's writes, place by place
 
-after-more : (D : ℕ → Bool) (k : ℕ) (hs : List Held) (x : Held) (y : Record) → afterWrites D k (hs ++ x ∷ []) y ≡ (if writesTo k x && D (x .transaction) then written x else afterWrites D k hs y)
+pub after-more : (D : ℕ → Bool) (k : ℕ) (hs : List Held) (x : Held) (y : Record) → afterWrites D k (hs ++ x ∷ []) y ≡ (if writesTo k x && D (x .transaction) then written x else afterWrites D k hs y)
 unfolding afterWrites
 after-more D k [] x y = refl
 after-more D k (g ∷ hs) x y = after-more D k hs x _
@@ -114,14 +114,14 @@ module _ (h : List ℕ) (s t k : ℕ) (y : Record) where
   abbrev pub writesTill : ℕ → Record
   writesTill q = afterWrites (λ u. eqb u t) k (heldIn h q s) y
 
-  writes-own : (q : ℕ) → isOf h s t q ≡ true → writesTill (suc q) ≡ writeOf (itemAt h q) k (writesTill q)
+  pub writes-own : (q : ℕ) → isOf h s t q ≡ true → writesTill (suc q) ≡ writeOf (itemAt h q) k (writesTill q)
   unfolding isOf
   writes-own q w =
       let a = and-l (eqb (itemAt h q .stream) s) _ w in
       let b = and-r (eqb (itemAt h q .stream) s) _ w in
       ap (λ hs. afterWrites (λ u. eqb u t) k hs y) (held-more h q s) ∙ rw a (after-more (λ u. eqb u t) k (heldIn h q s) (itemAt h q .entry) y ∙ rw (b, and-true (writesTo k (itemAt h q .entry))))
 
-  writes-other : (q : ℕ) → isOf h s t q ≡ false → writesTill (suc q) ≡ writesTill q
+  pub writes-other : (q : ℕ) → isOf h s t q ≡ false → writesTill (suc q) ≡ writesTill q
   unfolding isOf
   writes-other q w = ap (λ hs. afterWrites (λ u. eqb u t) k hs y) (held-more h q s) ∙ go (eqb (itemAt h q .stream) s) w
     where

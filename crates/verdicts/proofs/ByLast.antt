@@ -81,7 +81,7 @@ module _ (d : ℕ → ℕ → Bool) (t : ℕ) where
 
 -- ---- what the table takes
 
-takes-Ended : {X : Type 0} (k : ℕ) → takes k Ended ≡ true → X
+pub takes-Ended : {X : Type 0} (k : ℕ) → takes k Ended ≡ true → X
 unfolding takes
 takes-Ended {X} k t = go (leb k CC) (eqb k CP) (eqb k A) t
   where
@@ -106,13 +106,13 @@ no-CP k s early t = go (eqb k CP) refl
     go false e = refl
 
 -- after a P only CP and A
-record EndsPrepared (k : ℕ) : Type 0 where
-  no-P : eqb k P ≡ false
-  no-CC : eqb k CC ≡ false
-  no-write : leb k DELETE ≡ false
-  ends : (eqb k CP || eqb k A) ≡ true
+pub record EndsPrepared (k : ℕ) : Type 0 where
+  pub no-P : eqb k P ≡ false
+  pub no-CC : eqb k CC ≡ false
+  pub no-write : leb k DELETE ≡ false
+  pub ends : (eqb k CP || eqb k A) ≡ true
 
-takes-prepared : (k : ℕ) → takes k Prepared ≡ true → EndsPrepared k
+pub takes-prepared : (k : ℕ) → takes k Prepared ≡ true → EndsPrepared k
 unfolding takes
 takes-prepared k t =
     let r = above (leb k CC) (eqb k CP) (eqb k A) t in
@@ -237,10 +237,10 @@ module _ (h : List ℕ) (n : ℕ) (o : Orderly h n) where
           (omega (arith, p .0, q .0), λ e. omega (arith, p .1 (omega (arith, p .0, q .0)), q .1 (omega (arith, p .0, q .0))))
 
   module _ (e s t : ℕ) where
-    abbrev es : ℕ → List Held
+    abbrev pub es : ℕ → List Held
     es m = upto e (heldIn h m s)
 
-    es-more : (m : ℕ) → es (suc m) ≡ (if eqb (itemAt h m .stream) s && leb (itemAt h m .entry .epoch) e then es m ++ itemAt h m .entry ∷ [] else es m)
+    pub es-more : (m : ℕ) → es (suc m) ≡ (if eqb (itemAt h m .stream) s && leb (itemAt h m .entry .epoch) e then es m ++ itemAt h m .entry ∷ [] else es m)
     unfolding upto filter mine
     es-more m =
         ap (λ xs. upto e (mine s xs)) (parse-more 20 itemOf m h) ∙ ap (upto e) (mine-append s (items m h) (itemAt h m ∷ []))
