@@ -6,6 +6,7 @@ ghost use lib.ListN.{length};
 ghost use lib.Count.{ones};
 ghost use Rattle.model.specs.Lists.{bitsOf};
 ghost use Rattle.epoch.specs.Missing.{missingIn, MissingMarks};
+ghost use Rattle.epoch.specs.Closed.{Closable, Closed};
 
 // Stream i has not taken the mark of the epoch after the closed one.
 fn is_missing(streams: &[u8], closed: u32, i: usize) -> bool
@@ -58,4 +59,49 @@ fn snapshot(places: &[u8]) -> [u8; 5120]
     let mut old = [0u8; 5120];
     bytes::copy(places, &mut old);
     old
+}
+
+// How many pieces a close installed, and how many entries are held after it.
+pub struct Settled {
+    pub pieces: u32,
+    pub count: u16,
+}
+
+// Verdicts, installing and listing go by the snapshot, and then its survivors are written.
+fn settle(
+    places: &mut [u8],
+    records: &mut [u8],
+    list: &mut [u32],
+    old: &[u8],
+    fragments: u8,
+    n: usize,
+    closed: u32,
+) -> Settled
+    requires { ⌜ (length (now places) ≡ 5120) × Closable (now old) (now records) (now list) fragments n closed ⌝ }
+    ensures { λ r. ⌜ Closed fragments closed n (now (old .entry)) (now (places .exit)) (now (records .entry)) (now (records .exit)) (now (list .entry)) (now (list .exit)) (r .pieces) (r .count) ⌝ }
+{
+    let last = lookback::lasts(old, n);
+    let numbers = verdicts::verdicts(old, &last, n, closed + 1);
+    let pieces = install::install_all(records, list, old, &last, &numbers, n, fragments);
+    let left = survivors::keep_survivors(places, old, &numbers, n);
+    Settled {
+        pieces: pieces as u32,
+        count: left as u16,
+    }
+}
+
+// Closes the epoch after the closed one, by the places as they stand when the call begins.
+pub fn close_sections(
+    places: &mut [u8],
+    records: &mut [u8],
+    list: &mut [u32],
+    fragments: u8,
+    count: u16,
+    closed: u32,
+) -> Settled
+    requires { ⌜ Closable (now places) (now records) (now list) fragments count closed ⌝ }
+    ensures { λ r. ⌜ Closed fragments closed count (now (places .entry)) (now (places .exit)) (now (records .entry)) (now (records .exit)) (now (list .entry)) (now (list .exit)) (r .pieces) (r .count) ⌝ }
+{
+    let old = snapshot(places);
+    settle(places, records, list, &old, fragments, lookback::wide16(count), closed)
 }
