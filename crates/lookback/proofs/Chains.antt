@@ -43,7 +43,7 @@ module _ (p : ℕ → Bool) where
       let e' : p n ≡ false = rw d at e in
       rw (d, e')
 
-  last-own : (m : ℕ) → 0 < m → m ≡ lastWith p m → p (m - 1) ≡ true
+  pub last-own : (m : ℕ) → 0 < m → m ≡ lastWith p m → p (m - 1) ≡ true
   unfolding lastWith
   last-own zero h e = absurd (omega arith)
   last-own (suc n) h e = let d : suc n - 1 ≡ n = omega arith in rw d (go (p n) (last-le n) e)
@@ -52,8 +52,22 @@ module _ (p : ℕ → Bool) where
       go true l x = refl
       go false l x = absurd (omega arith)
 
+  pub last-passes : (n j : ℕ) → lastWith p n ≡ suc j → (j < n) × (p j ≡ true)
+  unfolding lastWith
+  last-passes zero j e = absurd (omega arith)
+  last-passes (suc n) j e = go (p n) refl e (last-passes n j)
+    where
+      go : (b : Bool) → p n ≡ b → (if b then suc n else lastWith p n) ≡ suc j → (lastWith p n ≡ suc j → (j < n) × (p j ≡ true)) → (j < suc n) × (p j ≡ true)
+      go true t e ih = let z : n ≡ j = omega arith in (omega arith, rw z at t)
+      go false t e ih = let r = ih e in (omega (arith, r .0), r .1)
+
+pub same-last : (p q : ℕ → Bool) (m : ℕ) → ((k : ℕ) → k < m → p k ≡ q k) → lastWith p m ≡ lastWith q m
+unfolding lastWith
+same-last p q zero f = refl
+same-last p q (suc m) f = rw (f m (omega arith), same-last p q m (λ k l. f k (omega arith)))
+
 -- where p asks for more than q does, p's last is found from q's last on
-last-jump : (p q : ℕ → Bool) → ((k : ℕ) → p k ≡ true → q k ≡ true) → (n : ℕ) → lastWith p n ≡ lastWith p (lastWith q n)
+pub last-jump : (p q : ℕ → Bool) → ((k : ℕ) → p k ≡ true → q k ≡ true) → (n : ℕ) → lastWith p n ≡ lastWith p (lastWith q n)
 unfolding lastWith
 last-jump p q f zero = refl
 last-jump p q f (suc n) = go (q n) refl (last-jump p q f n)

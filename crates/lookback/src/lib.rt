@@ -81,7 +81,7 @@ fn wide(x: u32) -> u64
     x as u64
 }
 
-fn wide16(x: u16) -> usize
+pub fn wide16(x: u16) -> usize
     ensures { λ r. ⌜ r ≡ x ⌝ }
 {
     x as usize

@@ -8,8 +8,7 @@ use Rattle.wire.specs.Numbers.{number16}
 use Rattle.model.specs.Account.{Account}
 use Rattle.model.specs.Decoding.{countersOf, mine}
 use Rattle.model.proofs.ByStream.{Sorted}
-use Rattle.model.specs.Section.{items}
-use Rattle.model.specs.Section.{plain}
+use Rattle.model.specs.Section.{items, plain}
 use Rattle.lot.specs.Layout.{headOf, streamsOf, placesOf, recordsOf, OPEN}
 use Rattle.lot.specs.View.{tagOf, numberOf, fragmentsOf, keysOf, countOf, closedOf, recordAt}
 use Rattle.lot.specs.Head.{numbersOf, numbersWith, headBytes}

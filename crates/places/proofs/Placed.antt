@@ -21,7 +21,7 @@ use Rattle.model.specs.Section.{plainPlace}
 use Rattle.places.specs.Places.{endOf, heldItem, EntryHeld}
 use Rattle.places.proofs.Sections.{parse-split, insert-parts}
 
-item-reads : (l m : List ℕ) → Same l m 0 20 → itemOf l ≡ itemOf m
+pub item-reads : (l m : List ℕ) → Same l m 0 20 → itemOf l ≡ itemOf m
 unfolding itemOf Same
 item-reads l m s =
     let f : (k : ℕ) → k < 20 → getD l k 0 ≡ getD m k 0 = λ k u. s k (omega arith) (omega arith) in

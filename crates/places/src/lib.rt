@@ -36,7 +36,7 @@ fn shift(held: &mut [u8], start: usize, end: usize)
 }
 
 // Puts the 20 bytes of a place in at start, and moves what stood from there up to end on by one place.
-fn insert(held: &mut [u8], start: usize, end: usize, place: &[u8])
+pub fn insert(held: &mut [u8], start: usize, end: usize, place: &[u8])
     requires { ⌜ (start ≤ end) × (end + 20 ≤ length (now held)) × (length (now place) ≡ 20) ⌝ }
     ensures { λ _. ⌜ now (held .exit) ≡ inserted (now (held .entry)) start end (now (place .entry)) ⌝ }
 {

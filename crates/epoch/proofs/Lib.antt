@@ -1,0 +1,4 @@
+pub mod Bits
+pub mod Shot
+pub mod Listing
+pub mod Closing

@@ -1,0 +1,107 @@
+// Closing an epoch over the sections of a lot: the marks that are missing, and the sections after the close.
+// It stands on `verdicts`, `install` and `survivors`, and takes its snapshot with the kit's `bytes`.
+ghost use mathlib.Core.Path.{_≡_};
+ghost use Prim.Native.Nat.{_+_, _*_, _≤_, _<_};
+ghost use lib.ListN.{length};
+ghost use lib.Count.{ones};
+ghost use Rattle.model.specs.Lists.{bitsOf};
+ghost use Rattle.epoch.specs.Missing.{missingIn, MissingMarks};
+ghost use Rattle.epoch.specs.Closed.{Closable, Closed};
+
+// Stream i has not taken the mark of the epoch after the closed one.
+fn is_missing(streams: &[u8], closed: u32, i: usize) -> bool
+    requires { ⌜ (i * 8 + 8 ≤ length (now streams)) × (closed < 4294967295) ⌝ }
+    ensures { λ r. ⌜ r ≡ missingIn (now (streams .entry)) closed i ⌝ }
+{
+    wire::get32(streams, i * 8 + 4) <= closed + 1
+}
+
+// The byte of missing streams, bit i for stream i.
+fn missing_byte(streams: &[u8], fragments: u8, closed: u32) -> u8
+    requires { ⌜ (fragments ≤ 8) × (fragments * 8 ≤ length (now streams)) × (closed < 4294967295) ⌝ }
+    ensures { λ r. ⌜ r ≡ bitsOf (missingIn (now (streams .entry)) closed) fragments ⌝ }
+{
+    let mut byte: u32 = 0;
+    let mut weight: u32 = 1;
+    let mut i: u8 = 0;
+    while i < fragments {
+        if is_missing(streams, closed, i as usize) {
+            byte += weight;
+        }
+        weight *= 2;
+        i += 1;
+    }
+    byte as u8
+}
+
+pub struct Missing {
+    pub streams: u8,
+    pub ones: u8,
+}
+
+// The streams without the mark, as a byte, and how many: the ones of that byte.
+pub fn missing_marks(streams: &[u8], fragments: u8, closed: u32) -> Missing
+    requires { ⌜ (fragments ≤ 8) × (fragments * 8 ≤ length (now streams)) × (closed < 4294967295) ⌝ }
+    ensures { λ r. ⌜ MissingMarks (now (streams .entry)) closed fragments (r .streams) (r .ones) ⌝ }
+{
+    let byte = missing_byte(streams, fragments, closed);
+    let ones = u32::count_ones(byte as u32);
+    Missing {
+        streams: byte,
+        ones: ones as u8,
+    }
+}
+
+fn snapshot(places: &[u8]) -> [u8; 5120]
+    requires { ⌜ length (now places) ≡ 5120 ⌝ }
+    ensures { λ r. ⌜ r ≡ now (places .entry) ⌝ }
+{
+    let mut old = [0u8; 5120];
+    bytes::copy(places, &mut old);
+    old
+}
+
+// How many pieces a close installed, and how many entries are held after it.
+pub struct Settled {
+    pub pieces: u32,
+    pub count: u16,
+}
+
+// Verdicts, installing and listing go by the snapshot, and then its survivors are written.
+fn settle(
+    places: &mut [u8],
+    records: &mut [u8],
+    list: &mut [u32],
+    old: &[u8],
+    fragments: u8,
+    n: usize,
+    closed: u32,
+) -> Settled
+    requires { ⌜ (length (now places) ≡ 5120) × Closable (now old) (now records) (now list) fragments n closed ⌝ }
+    ensures { λ r. ⌜ Closed fragments closed n (now (old .entry)) (now (places .exit)) (now (records .entry)) (now (records .exit)) (now (list .entry)) (now (list .exit)) (r .pieces) (r .count) ⌝ }
+{
+    let last = lookback::lasts(old, n);
+    let numbers = verdicts::verdicts(old, &last, n, closed + 1);
+    let pieces = install::install_all(records, list, old, &last, &numbers, n, fragments);
+    let left = survivors::keep_survivors(places, old, &numbers, n);
+    Settled {
+        pieces: pieces as u32,
+        count: left as u16,
+    }
+}
+
+// Closes the epoch after the closed one, by the places as they stand when the call begins.
+pub fn close_sections(
+    places: &mut [u8],
+    records: &mut [u8],
+    list: &mut [u32],
+    fragments: u8,
+    count: u16,
+    closed: u32,
+) -> Settled
+    requires { ⌜ Closable (now places) (now records) (now list) fragments count closed ⌝ }
+    ensures { λ r. ⌜ Closed fragments closed count (now (places .entry)) (now (places .exit)) (now (records .entry)) (now (records .exit)) (now (list .entry)) (now (list .exit)) (r .pieces) (r .count) ⌝ }
+{
+    let old = snapshot(places);
+    settle(places, records, list, &old, fragments, lookback::wide16(count), closed)
+}

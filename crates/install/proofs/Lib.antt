@@ -1,0 +1,4 @@
+pub mod Written
+pub mod Ordered
+pub mod Installing
+pub mod ToModel

@@ -1,0 +1,2 @@
+pub mod Orderly
+pub mod Verdicts
