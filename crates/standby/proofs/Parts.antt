@@ -50,9 +50,10 @@ module _ (m : List ℕ) (i : ℕ) (q : List ℕ) (inside : i * SIZE + SIZE ≤ l
       let a = i * SIZE in
       let z : a + SIZE - a ≡ SIZE = omega arith in
       let whole : length q ≡ SIZE = kept ∙ simp (length-take, length-drop) (omega arith) in
-      rw z
-      (record { long = simp (length-append, length-take, length-drop) (omega arith); before = before m q a SIZE inside whole a 0 (omega arith); behind = after m q a SIZE inside whole (a + SIZE) (omega arith) },
-      ap viewLot (own m q a SIZE inside whole) ∙ e)
+      rw z (
+        record { long = simp (length-append, length-take, length-drop) (omega arith); before = before m q a SIZE inside whole a 0 (omega arith); behind = after m q a SIZE inside whole (a + SIZE) (omega arith) },
+        ap viewLot (own m q a SIZE inside whole) ∙ e,
+      )
 
 -- ---- the other lots
 

@@ -12,11 +12,11 @@ ghost use Rattle.lot.specs.Writing.{foundOf};
 ghost use Rattle.standby.specs.Memory.{memoryFits, lotFits, lotOf, viewOf, Becomes, named};
 ghost use Rattle.standby.specs.Looks.{lookFrom, looksDamaged, looksFree, looksOf, rowFrom, findingIn, findingOf, surveyOf, withLook, placeIn};
 ghost use Rattle.standby.specs.Calls.{AllFree, Started, openAnswer, AccountOpened, readAnswer, Dropped, rowOf, overviewAnswer, rowsFor, Overviewed};
+use lot::Look;
 use model::Found;
 use model::Opened;
 use model::Outcome;
 use model::Refusal;
-use lot::Look;
 
 pub const MOST_LOTS: u32 = 16;
 
@@ -229,7 +229,13 @@ pub fn open_account(memory: &mut [u8], lots: u32, account: u32, fragments: u32, 
 {
     match open_answer(memory, lots, account, fragments, keys) {
         Opened::InLot(i) => {
-            open_in(memory, i as usize, account as u16, fragments as u8, keys as u16);
+            open_in(
+                memory,
+                i as usize,
+                account as u16,
+                fragments as u8,
+                keys as u16,
+            );
             Opened::InLot(i)
         }
         Opened::NotOpened(r) => Opened::NotOpened(r),
@@ -247,7 +253,14 @@ fn record_in(memory: &[u8], lot: usize, fragment: usize, key: usize) -> Found
     lot::record_of(&memory[a..e], fragment, key)
 }
 
-pub fn read_record(memory: &[u8], lots: u32, lot: u32, account: u32, fragment: u32, key: u32) -> Found
+pub fn read_record(
+    memory: &[u8],
+    lots: u32,
+    lot: u32,
+    account: u32,
+    fragment: u32,
+    key: u32,
+) -> Found
     ensures { λ r. ⌜ r ≡ readAnswer (now (memory .entry)) lots lot account fragment key ⌝ }
 {
     match find(memory, lots, lot, account) {
