@@ -120,6 +120,10 @@ rowOf free = record { account = 0; closed = 0; held = 0; damaged = 0 }
 rowOf damaged = record { account = 0; closed = 0; held = 0; damaged = 1 }
 rowOf (holds a) = record { account = a .number; closed = a .closed; held = heldCount a; damaged = 0 }
 
+-- the row of one lot, and that of a free one where there is no such lot
+unfoldable pub rowAt : List ℕ → ℕ → ℕ → Row
+rowAt m lots lot = if lotFits lots lot m then rowOf (viewOf m lot) else rowOf free
+
 -- n: how many rows are lent
 unfoldable pub overviewAnswer : List ℕ → ℕ → ℕ → Outcome
 overviewAnswer m lots n =
