@@ -25,7 +25,7 @@ use ghost.Atoms.{Atoms, sem}
 use contract.Monad.{Fun, fact}
 use contract.Running.{givenOf, tables, tablesOf}
 use sound.Loop.{loop-rule}
-use sound.WpLaws.{FmC, fmOf, WpFn-mono}
+use sound.WpLaws.{fmOf, WpFn-mono}
 use types.Kit.{Given, Item, ‵, raw, some, later, _⊛_, ⋆, anyQ, atRet, _$_, _∵_, !, qed, by, move, keep, drop, use1, use2, split, split3, join, pick, rewrite, fsplit, fjoin, suffices, frame, await, done}
 use types.Run.{look, init, store, store-raw, forget, stop, hop, fld, from, load, lit, of-opd, and-then, no-more, bin, assigns, assigns-last, land, stays, leaves-loop, returns, enter, alloc1, alloc0, params1, pass1, pass0, free1, free0, exec}
 use types.Part.{whole, sub, look-in}
@@ -55,7 +55,7 @@ use Rattle.model.specs.declared.Outcome.{Outcome}
 use Rattle.model.proofs.Outcome as O
 use Rattle.model.proofs.Outcome.Laws as O′
 use Rattle.standby.specs.Memory.{viewOf}
-use Rattle.standby.specs.Calls.{rowOf, overviewAnswer, rowsFor, rowsWith, Overviewed}
+use Rattle.standby.specs.Calls.{rowOf, overviewAnswer, rowsFor, rowsWith}
 use Rattle.standby.specs.declared.Row.{Row}
 use Rattle.standby.proofs.Rows.{no-row-yet, row-more, rows-long, due-enough, due-inside}
 use Rattle.standby.proofs.Row as T

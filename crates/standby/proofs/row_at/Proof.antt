@@ -1,6 +1,5 @@
 -- `row_at` answers the row of one lot, if there is such a lot. Assumes nothing.
-use mathlib.Core.Path.{_≡_, sym, _∙_}
-use mathlib.Core.Bool.{true, false}
+use mathlib.Core.Path.{sym, _∙_}
 use borrow.Author.Tests.{not-true, not-false}
 use Rattle.standby.specs.Calls.{rowAt}
 use Rattle.standby.proofs.Parts.{lot-inside}
