@@ -1,19 +1,17 @@
 -- What each return of a call answers and leaves is what the call owes. Assumes nothing.
-use Prim.Native.Nat.{ℕ, suc, _+_, _*_, _-_, _<_, _≤_, _^_}
+use Prim.Native.Nat.{ℕ, _+_, _*_, _<_, _≤_, _^_}
 use mathlib.Core.Path.{_≡_, refl, sym, ap, _∙_}
-use mathlib.Core.Logic.{⊎-elim}
 use mathlib.Core.Bool.{Bool, true, false, not, _&&_, _||_}
 use mathlib.Core.List.{List}
 use native.Mathlib.Omega.{arith}
 use native.Mathlib.Decide.{decLt}
-use lib.Dec.{leb, ltb, eqb}
-use lib.ListN.{length, take, drop}
+use lib.Dec.{ltb}
+use lib.ListN.{length}
 use borrow.Author.Tests.{leb-true, ltb-true, lt-ltb, le-ltb}
-use Rattle.model.specs.Lists.{if_then_else_, every}
+use Rattle.model.specs.Lists.{if_then_else_}
 use Rattle.model.specs.Account.{Account, accountFits, MOST-FRAGMENTS, MOST-KEYS}
 use Rattle.model.specs.declared.Refusal.{Refusal}
 use Rattle.model.specs.declared.Refusal.the-variants.{NoSuchLot, Damaged, NotThisAccount, OutsideAccount, AlreadyOpen, NoFreeLot, UnfitAccount, TooShort}
-use Rattle.model.specs.declared.Outcome.{Outcome}
 use Rattle.model.specs.declared.Outcome.the-variants.{Done, Refused}
 use Rattle.model.specs.declared.Opened.{Opened}
 use Rattle.model.specs.declared.Opened.the-variants.{InLot, NotOpened}
@@ -25,9 +23,9 @@ use Rattle.lot.specs.Writing.{foundOf}
 use Rattle.lot.specs.declared.Account as numbers
 use Rattle.lot.specs.declared.Look.{Look}
 use Rattle.lot.proofs.Views.{holds-shown}
-use Rattle.standby.specs.Memory.{memoryFits, lotFits, lotOf, viewOf, Becomes, refused, found, named, isFree, isDamaged, isOf, someBelow, lowestBelow}
+use Rattle.standby.specs.Memory.{memoryFits, lotFits, lotOf, viewOf, Becomes, named, isFree, isDamaged, isOf, someBelow, lowestBelow}
 use Rattle.standby.specs.Looks.{lookFrom, looksDamaged, looksOf, rowFrom, findingOf, surveyOf, placeIn}
-use Rattle.standby.specs.Calls.{startAnswer, AllFree, Started, placeFor, openAnswer, AccountOpened, readAnswer, dropFrom, dropAnswer, Dropped, rowOf, overviewAnswer}
+use Rattle.standby.specs.Calls.{startAnswer, AllFree, Started, placeFor, openAnswer, readAnswer, dropFrom, dropAnswer, Dropped, rowOf, overviewAnswer}
 use Rattle.standby.specs.declared.Finding.the-variants as finding
 use Rattle.standby.proofs.Parts.{memory-long, lot-inside, others-stay}
 use Rattle.standby.proofs.Lowest.{lowest}

@@ -1,20 +1,18 @@
 -- Each contract determines what its call owes: two results that satisfy it are equal in the answer, in the named account, in every byte outside the lot, and in the rows. Assumes nothing.
 use Prim.Native.Nat.{ℕ, _<_}
-use mathlib.Core.Path.{_≡_, refl, sym, ap, _∙_}
+use mathlib.Core.Path.{_≡_, refl, sym, _∙_}
 use mathlib.Core.List.{List}
 use lib.ListN.{length}
-use Rattle.model.specs.Account.{Account, fresh}
-use Rattle.model.specs.Entry.{entryOf}
+use Rattle.model.specs.Account.{fresh}
 use Rattle.model.specs.Taking.{taken}
 use Rattle.model.specs.declared.Outcome.{Outcome}
 use Rattle.model.specs.declared.Outcome.the-variants.{Done, Refused}
 use Rattle.model.specs.declared.Opened.{Opened}
 use Rattle.model.specs.declared.Opened.the-variants.{InLot, NotOpened}
-use Rattle.model.specs.declared.Refusal.{Refusal}
 use Rattle.model.proofs.Tests.{no-way}
-use Rattle.lot.specs.View.{Lot, holds}
+use Rattle.lot.specs.View.{Lot}
 use Rattle.standby.specs.Memory.{viewOf, OnlyLot, Becomes, Named, refused, found, named}
-use Rattle.standby.specs.Calls.{AllFree, FreedAll, Started, OpenedAs, AccountOpened, deliverTo, deliverAnswer, TakenBy, Delivered, Freed, Dropped, Overviewed}
+use Rattle.standby.specs.Calls.{FreedAll, Started, OpenedAs, AccountOpened, deliverTo, deliverAnswer, TakenBy, Delivered, Freed, Dropped, Overviewed}
 use Rattle.standby.specs.declared.Row.{Row}
 use Rattle.standby.proofs.Named.{holder}
 

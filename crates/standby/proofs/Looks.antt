@@ -1,23 +1,19 @@
 -- What the calls learn from looks at lots is what the lots' views say. Assumes nothing.
 use Prim.Native.Nat.{ℕ, suc}
 use mathlib.Core.Path.{_≡_, refl, sym, ap, _∙_}
-use mathlib.Core.Bool.{Bool, true, false, not}
+use mathlib.Core.Bool.{true, false}
 use mathlib.Core.List.{List}
 use lib.Dec.{eqb}
-use Rattle.model.specs.Lists.{if_then_else_}
-use Rattle.model.specs.Account as model
 use Rattle.model.specs.declared.Refusal.the-variants.{NoSuchLot, NotThisAccount}
 use Rattle.model.proofs.Tests.{if-ap}
 use Rattle.lot.specs.Layout.{headOf}
 use Rattle.lot.specs.View.{Lot, free, damaged, holds, viewLot}
 use Rattle.lot.specs.Head.{numbersOf}
 use Rattle.lot.specs.Look.{lookOf, lookAs}
-use Rattle.lot.specs.declared.Look.{Look}
 use Rattle.lot.proofs.Looked.{head-numbers-of}
-use Rattle.standby.specs.Memory.{lotFits, lotOf, viewOf, accountIn, Named, refused, found, named, someBelow, lowestBelow, isDamaged, isFree, isOf}
-use Rattle.standby.specs.Looks.{numbersFrom, lookFrom, looksDamaged, looksFree, looksOf, findingIn, findingOf, surveyOf, withLook}
+use Rattle.standby.specs.Memory.{lotFits, lotOf, viewOf, accountIn, refused, found, named, someBelow, lowestBelow}
+use Rattle.standby.specs.Looks.{lookFrom, findingIn, findingOf, surveyOf, withLook}
 use Rattle.standby.specs.declared.Finding.the-variants.{Refused}
-use Rattle.standby.specs.declared.Survey.{Survey}
 use Rattle.standby.proofs.Parts.{part, part-is}
 
 look-is : (l : List ℕ) → lookOf l ≡ lookFrom (viewLot l)

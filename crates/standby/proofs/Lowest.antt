@@ -5,7 +5,7 @@ use mathlib.Core.Bool.{Bool, true, false, _||_}
 use native.Mathlib.Omega.{arith}
 use native.Mathlib.Decide.{decLt}
 use Rattle.model.specs.Lists.{if_then_else_}
-use Rattle.model.proofs.Tests.{no-way, either, by-cases}
+use Rattle.model.proofs.Tests.{no-way}
 use Rattle.standby.specs.Memory.{someBelow, lowestBelow}
 
 module _ (p : ℕ → Bool) where

@@ -1,11 +1,9 @@
 -- What follows where a call finds the account that it names, and where it is refused. Assumes nothing.
-use Prim.Native.Nat.{ℕ, _+_, _*_, _<_, _≤_}
+use Prim.Native.Nat.{ℕ, _≤_}
 use mathlib.Core.Path.{_≡_, refl, sym, ap, _∙_}
 use mathlib.Core.Bool.{Bool, true, false, not}
 use mathlib.Core.List.{List}
-use native.Mathlib.Omega.{arith}
 use lib.Dec.{eqb}
-use lib.ListN.{length}
 use borrow.Author.Tests.{eqb-true, leb-true}
 use Rattle.model.specs.Lists.{if_then_else_}
 use Rattle.model.specs.Account as model
@@ -13,14 +11,12 @@ use Rattle.model.specs.Account.{accountFits}
 use Rattle.model.specs.declared.Refusal.{Refusal}
 use Rattle.model.specs.declared.Refusal.the-variants.{NoSuchLot, NotThisAccount}
 use Rattle.model.proofs.Tests.{no-way, nth}
-use Rattle.lot.specs.Layout.{SIZE}
-use Rattle.lot.specs.View.{Lot, free, damaged, holds, viewLot}
+use Rattle.lot.specs.View.{Lot, free, damaged, holds}
 use Rattle.lot.specs.declared.Account.{Account}
 use Rattle.lot.proofs.Views.{holds-well-formed}
 use Rattle.standby.specs.Memory.{lotFits, lotOf, viewOf, accountIn, Named, refused, found, named}
 use Rattle.standby.specs.Looks.{numbersFrom, findingOf}
 use Rattle.standby.specs.declared.Finding.the-variants.{Refused, Found}
-use Rattle.standby.proofs.Parts.{lot-inside}
 
 -- the account that a call finds
 pub record Holder (m : List ℕ) (lots lot number : ℕ) (a : model.Account) : Type 0 where

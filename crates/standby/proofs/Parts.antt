@@ -1,15 +1,15 @@
 -- A lot that is lent as a part of the memory: it becomes what it is left as, and every other lot stays. Assumes nothing.
 use Prim.Native.Nat.{ℕ, zero, suc, _+_, _*_, _-_, _<_, _≤_}
-use mathlib.Core.Path.{_≡_, refl, sym, ap, _∙_}
+use mathlib.Core.Path.{_≡_, sym, ap, _∙_}
 use mathlib.Core.Logic.{_≢_}
-use mathlib.Core.Bool.{true, false}
+use mathlib.Core.Bool.{true}
 use mathlib.Core.List.{List, [], _∷_, _++_}
 use native.Mathlib.Nat.{zero-add, suc-add}
 use native.Mathlib.Omega.{arith}
 use native.Mathlib.Decide.{decLt}
-use lib.ListN.{length, take, drop, length-append, length-take, length-drop, take-append-drop}
+use lib.ListN.{length, take, drop, length-append, length-take, length-drop}
 use lib.Seq.{take-nil, take-take, drop-drop}
-use borrow.Author.Tests.{eqb-true, leb-true, ltb-true}
+use borrow.Author.Tests.{eqb-true, ltb-true}
 use Rattle.model.proofs.Tests.{and-l, and-r, nth}
 use Rattle.lot.specs.Layout.{SIZE}
 use Rattle.lot.specs.View.{Lot, viewLot}
@@ -50,9 +50,10 @@ module _ (m : List ℕ) (i : ℕ) (q : List ℕ) (inside : i * SIZE + SIZE ≤ l
       let a = i * SIZE in
       let z : a + SIZE - a ≡ SIZE = omega arith in
       let whole : length q ≡ SIZE = kept ∙ simp (length-take, length-drop) (omega arith) in
-      rw z
-      (record { long = simp (length-append, length-take, length-drop) (omega arith); before = before m q a SIZE inside whole a 0 (omega arith); behind = after m q a SIZE inside whole (a + SIZE) (omega arith) },
-      ap viewLot (own m q a SIZE inside whole) ∙ e)
+      rw z (
+        record { long = simp (length-append, length-take, length-drop) (omega arith); before = before m q a SIZE inside whole a 0 (omega arith); behind = after m q a SIZE inside whole (a + SIZE) (omega arith) },
+        ap viewLot (own m q a SIZE inside whole) ∙ e,
+      )
 
 -- ---- the other lots
 

@@ -1,15 +1,14 @@
 -- What each call owes: its answer, the named account afterwards, and that every other byte stays. A call is a relation between the lent memory before it (m) and after it (m').
-use Prim.Native.Nat.{ℕ, zero, suc, _+_, _*_, _<_}
+use Prim.Native.Nat.{ℕ, _+_, _<_}
 use mathlib.Core.Path.{_≡_}
-use mathlib.Core.Bool.{Bool, true, false, not, _&&_}
+use mathlib.Core.Bool.{not, _&&_}
 use mathlib.Core.List.{List, [], _∷_, _++_}
-use lib.Dec.{leb, ltb, eqb}
+use lib.Dec.{ltb, eqb}
 use lib.ListN.{length, drop}
 use Rattle.model.specs.Lists.{if_then_else_, upward}
 use Rattle.model.specs.Entry.{entryOf}
 use Rattle.model.specs.Account.{Account, accountFits, fresh, heldCount}
 use Rattle.model.specs.Taking.{judge, taken}
-use Rattle.model.specs.declared.Refusal.{Refusal}
 use Rattle.model.specs.declared.Refusal.the-variants.{NoSuchLot, Damaged, NotThisAccount, OutsideAccount, AlreadyOpen, NoFreeLot, UnfitAccount, TooShort}
 use Rattle.model.specs.declared.Outcome.{Outcome}
 use Rattle.model.specs.declared.Outcome.the-variants.{Done, Refused}
@@ -119,6 +118,10 @@ abbrev pub rowOf : Lot → Row
 rowOf free = record { account = 0; closed = 0; held = 0; damaged = 0 }
 rowOf damaged = record { account = 0; closed = 0; held = 0; damaged = 1 }
 rowOf (holds a) = record { account = a .number; closed = a .closed; held = heldCount a; damaged = 0 }
+
+-- the row of one lot, and that of a free one where there is no such lot
+unfoldable pub rowAt : List ℕ → ℕ → ℕ → Row
+rowAt m lots lot = if lotFits lots lot m then rowOf (viewOf m lot) else rowOf free
 
 -- n: how many rows are lent
 unfoldable pub overviewAnswer : List ℕ → ℕ → ℕ → Outcome

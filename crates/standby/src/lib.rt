@@ -11,12 +11,12 @@ ghost use Rattle.lot.specs.View.{recordAt, free, holds};
 ghost use Rattle.lot.specs.Writing.{foundOf};
 ghost use Rattle.standby.specs.Memory.{memoryFits, lotFits, lotOf, viewOf, Becomes, accountIn, named};
 ghost use Rattle.standby.specs.Looks.{lookFrom, looksDamaged, looksFree, looksOf, rowFrom, findingIn, findingOf, surveyOf, withLook, placeIn};
-ghost use Rattle.standby.specs.Calls.{AllFree, Started, openAnswer, AccountOpened, deliverTo, TakenBy, Delivered, readAnswer, Dropped, rowOf, overviewAnswer, rowsFor, Overviewed};
+ghost use Rattle.standby.specs.Calls.{AllFree, Started, openAnswer, AccountOpened, deliverTo, TakenBy, Delivered, readAnswer, Dropped, rowOf, rowAt, overviewAnswer, rowsFor, Overviewed};
+use lot::Look;
 use model::Found;
 use model::Opened;
 use model::Outcome;
 use model::Refusal;
-use lot::Look;
 
 pub const MOST_LOTS: u32 = 16;
 
@@ -229,7 +229,13 @@ pub fn open_account(memory: &mut [u8], lots: u32, account: u32, fragments: u32, 
 {
     match open_answer(memory, lots, account, fragments, keys) {
         Opened::InLot(i) => {
-            open_in(memory, i as usize, account as u16, fragments as u8, keys as u16);
+            open_in(
+                memory,
+                i as usize,
+                account as u16,
+                fragments as u8,
+                keys as u16,
+            );
             Opened::InLot(i)
         }
         Opened::NotOpened(r) => Opened::NotOpened(r),
@@ -267,7 +273,14 @@ fn record_in(memory: &[u8], lot: usize, fragment: usize, key: usize) -> Found
     lot::record_of(&memory[a..e], fragment, key)
 }
 
-pub fn read_record(memory: &[u8], lots: u32, lot: u32, account: u32, fragment: u32, key: u32) -> Found
+pub fn read_record(
+    memory: &[u8],
+    lots: u32,
+    lot: u32,
+    account: u32,
+    fragment: u32,
+    key: u32,
+) -> Found
     ensures { λ r. ⌜ r ≡ readAnswer (now (memory .entry)) lots lot account fragment key ⌝ }
 {
     match find(memory, lots, lot, account) {
@@ -331,15 +344,25 @@ fn row_of(look: Look) -> Row
     }
 }
 
-// The row of one lot.
-fn row_at(memory: &[u8], lot: usize) -> Row
+fn row_in(memory: &[u8], lot: usize) -> Row
     requires { ⌜ lot * SIZE + SIZE ≤ length (now memory) ⌝ }
     ensures { λ r. ⌜ r ≡ rowOf (viewOf (now (memory .entry)) lot) ⌝ }
 {
     row_of(look_in(memory, lot))
 }
 
-fn overview_answer(memory: &[u8], lots: u32, rows: usize) -> Outcome
+// The same for a caller that lends no rows: the row of one lot, and that of a free one where there is no such lot.
+pub fn row_at(memory: &[u8], lots: u32, lot: u32) -> Row
+    ensures { λ r. ⌜ r ≡ rowAt (now (memory .entry)) lots lot ⌝ }
+{
+    if !lot_fits(memory, lots, lot) {
+        return row_of(Look::Free);
+    }
+    row_in(memory, lot as usize)
+}
+
+// Refusals 1 and 16, where so many rows are lent.
+pub fn overview_answer(memory: &[u8], lots: u32, rows: usize) -> Outcome
     ensures { λ r. ⌜ r ≡ overviewAnswer (now (memory .entry)) lots rows ⌝ }
 {
     if !memory_fits(memory, lots) {
@@ -351,8 +374,8 @@ fn overview_answer(memory: &[u8], lots: u32, rows: usize) -> Outcome
     Outcome::Done
 }
 
-// How many rows the overview fills in.
-fn rows_due(memory: &[u8], lots: u32, rows: usize) -> usize
+// How many rows the overview then fills in.
+pub fn rows_due(memory: &[u8], lots: u32, rows: usize) -> usize
     ensures { λ r. ⌜ r ≡ rowsFor lots (overviewAnswer (now (memory .entry)) lots rows) ⌝ }
 {
     match overview_answer(memory, lots, rows) {
@@ -369,7 +392,7 @@ pub fn overview(memory: &[u8], lots: u32, rows: &mut [Row]) -> Outcome
     let n = rows_due(memory, lots, lent);
     let mut i: usize = 0;
     while i < n {
-        let row = row_at(memory, i);
+        let row = row_in(memory, i);
         rows[i] = row;
         i += 1;
     }

@@ -1,5 +1,5 @@
 -- `drop_account` meets what it owes. Assumes nothing.
-use mathlib.Core.Path.{_≡_, refl, sym, ap, _∙_}
+use mathlib.Core.Path.{sym, _∙_}
 use borrow.Author.Tests.{not-true, not-false}
 use Rattle.standby.proofs.Parts.{lot-inside}
 use Rattle.standby.proofs.Calls.{drop-nowhere, drop-other, drop-done}

@@ -1,8 +1,6 @@
 -- `look_in` answers what the lot means. Assumes nothing.
 use mathlib.Core.Path.{_∙_}
-use Rattle.standby.specs.Memory.{viewOf}
 use Rattle.standby.proofs.Looks.{looks}
-use native.Mathlib.Omega.{arith}
 use borrow.Author.Needs.{needs}
 use Rattle.standby.proofs.look_in.Statement.{statement}
 use Rattle.standby.proofs.look_in.Tie as tie

@@ -1,7 +1,6 @@
 -- `open_account` meets what it owes. Assumes nothing.
 use Rattle.standby.proofs.Calls.{opening}
-use mathlib.Core.Path.{_≡_, refl, sym, _∙_}
-use native.Mathlib.Omega.{arith}
+use mathlib.Core.Path.{refl, sym, _∙_}
 use borrow.Author.Needs.{needs}
 use Rattle.standby.proofs.open_account.Statement.{statement}
 use Rattle.standby.proofs.open_account.Tie as tie

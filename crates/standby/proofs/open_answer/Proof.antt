@@ -1,5 +1,5 @@
 -- `open_answer` judges an open: 1, 2, 15, 13, 14. Assumes nothing.
-use mathlib.Core.Path.{_≡_, sym, ap, _∙_}
+use mathlib.Core.Path.{sym, ap, _∙_}
 use native.Mathlib.Omega.{arith}
 use borrow.Author.Tests.{not-true, not-false}
 use Rattle.standby.specs.Looks.{placeIn}

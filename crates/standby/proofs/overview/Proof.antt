@@ -1,7 +1,7 @@
 -- `overview` meets its contract: a walk of its MIR, by hand, with a loop. The borrow of rows is opened once, before the loop, and closed once, after it. Between the two the memory is the function's own: the rows of the first i lots are stored, and the rest are as they were.
 --     At i         what is had where i lots are done.        Inv t     the loop's invariant, where t lots are left
 --     more, ends   a turn that stores one row, and the turn that leaves the loop, with the rest of the body
--- All that the proof knows of `rows_due`, `row_at` and `overview_answer` is that each meets its contract.
+-- All that the proof knows of `rows_due`, `row_in` and `overview_answer` is that each meets its contract.
 -- Assumes nothing.
 use mathlib.Core.Path.{_≡_, refl, sym, _∙_, ap, subst}
 use mathlib.Core.Bool.{Bool, true, false}
@@ -25,7 +25,7 @@ use ghost.Atoms.{Atoms, sem}
 use contract.Monad.{Fun, fact}
 use contract.Running.{givenOf, tables, tablesOf}
 use sound.Loop.{loop-rule}
-use sound.WpLaws.{FmC, fmOf, WpFn-mono}
+use sound.WpLaws.{fmOf, WpFn-mono}
 use types.Kit.{Given, Item, ‵, raw, some, later, _⊛_, ⋆, anyQ, atRet, _$_, _∵_, !, qed, by, move, keep, drop, use1, use2, split, split3, join, pick, rewrite, fsplit, fjoin, suffices, frame, await, done}
 use types.Run.{look, init, store, store-raw, forget, stop, hop, fld, from, load, lit, of-opd, and-then, no-more, bin, assigns, assigns-last, land, stays, leaves-loop, returns, enter, alloc1, alloc0, params1, pass1, pass0, free1, free0, exec}
 use types.Part.{whole, sub, look-in}
@@ -55,7 +55,7 @@ use Rattle.model.specs.declared.Outcome.{Outcome}
 use Rattle.model.proofs.Outcome as O
 use Rattle.model.proofs.Outcome.Laws as O′
 use Rattle.standby.specs.Memory.{viewOf}
-use Rattle.standby.specs.Calls.{rowOf, overviewAnswer, rowsFor, rowsWith, Overviewed}
+use Rattle.standby.specs.Calls.{rowOf, overviewAnswer, rowsFor, rowsWith}
 use Rattle.standby.specs.declared.Row.{Row}
 use Rattle.standby.proofs.Rows.{no-row-yet, row-more, rows-long, due-enough, due-inside}
 use Rattle.standby.proofs.Row as T
@@ -64,10 +64,10 @@ use Rattle.standby.proofs.rows_due as rows-due
 use Rattle.standby.proofs.rows_due.Symbol as rows-due-def
 use Rattle.standby.proofs.rows_due.Symbol.{name as #standby·rows-due}
 use Rattle.standby.proofs.rows_due.Met as rows-due-thm
-use Rattle.standby.proofs.row_at as row-at
-use Rattle.standby.proofs.row_at.Symbol as row-at-def
-use Rattle.standby.proofs.row_at.Symbol.{name as #standby·row-at}
-use Rattle.standby.proofs.row_at.Met as row-at-thm
+use Rattle.standby.proofs.row_in as row-in
+use Rattle.standby.proofs.row_in.Symbol as row-in-def
+use Rattle.standby.proofs.row_in.Symbol.{name as #standby·row-in}
+use Rattle.standby.proofs.row_in.Met as row-in-thm
 use Rattle.standby.proofs.overview_answer as answer
 use Rattle.standby.proofs.overview_answer.Symbol as answer-def
 use Rattle.standby.proofs.overview_answer.Symbol.{name as #standby·answer}
@@ -87,8 +87,8 @@ R = T.the-row
 abbrev vals : Row → List Val
 vals = LL.vals T.the-type T′.the-laws
 
-abbrev rowAt : List ℕ → ℕ → Row
-rowAt m i = rowOf (viewOf m i)
+abbrev rowOn : List ℕ → ℕ → Row
+rowOn m i = rowOf (viewOf m i)
 
 abbrev due : List ℕ → ℕ → ℕ → ℕ
 due m lots k = rowsFor lots (overviewAnswer m lots k)
@@ -133,8 +133,8 @@ module _ {M : Type 1} (𝓤 : URA M) (H : Heap 𝓤) (A : Atoms 𝓤) (at-mem : 
   abbrev RowsDue : Contract 𝓤
   RowsDue = tripleOf 𝓤 H A rows-due.signature (rows-due.spec 𝓤 H A at-mem run)
 
-  abbrev RowAt : Contract 𝓤
-  RowAt = tripleOf 𝓤 H A row-at.signature (row-at.spec 𝓤 H A at-mem run)
+  abbrev RowIn : Contract 𝓤
+  RowIn = tripleOf 𝓤 H A row-in.signature (row-in.spec 𝓤 H A at-mem run)
 
   abbrev Answer : Contract 𝓤
   Answer = tripleOf 𝓤 H A answer.signature (answer.spec 𝓤 H A at-mem run)
@@ -142,8 +142,8 @@ module _ {M : Type 1} (𝓤 : URA M) (H : Heap 𝓤) (A : Atoms 𝓤) (at-mem : 
   due-said : (κ : Lft) (x : RefT (List ℕ)) (L k r : ℕ) → ent 𝓤 (ensured 𝓤 H A rows-due.ended (rows-due.clauses 𝓤 H A at-mem run) (κ, tt) (x, (L, (k, tt))) tt r) (fact 𝓤 (r ≡ due (x .now) L k))
   due-said κ x L k r = exE 𝓤 _ (λ ws. snd∗ 𝓤 (sem 𝓤 H A (lasts rows-due.ended (κ, tt) (x, (L, (k, tt))) ws)) (fact 𝓤 (r ≡ due (x .now) L k)))
 
-  row-said : (κ : Lft) (x : RefT (List ℕ)) (i : ℕ) (r : Row) → ent 𝓤 (ensured 𝓤 H A row-at.ended (row-at.clauses 𝓤 H A at-mem run) (κ, tt) (x, (i, tt)) tt r) (fact 𝓤 (r ≡ rowAt (x .now) i))
-  row-said κ x i r = exE 𝓤 _ (λ ws. snd∗ 𝓤 (sem 𝓤 H A (lasts row-at.ended (κ, tt) (x, (i, tt)) ws)) (fact 𝓤 (r ≡ rowAt (x .now) i)))
+  row-said : (κ : Lft) (x : RefT (List ℕ)) (i : ℕ) (r : Row) → ent 𝓤 (ensured 𝓤 H A row-in.ended (row-in.clauses 𝓤 H A at-mem run) (κ, tt) (x, (i, tt)) tt r) (fact 𝓤 (r ≡ rowOn (x .now) i))
+  row-said κ x i r = exE 𝓤 _ (λ ws. snd∗ 𝓤 (sem 𝓤 H A (lasts row-in.ended (κ, tt) (x, (i, tt)) ws)) (fact 𝓤 (r ≡ rowOn (x .now) i)))
 
   answer-said : (κ : Lft) (x : RefT (List ℕ)) (L k : ℕ) (r : Outcome) → ent 𝓤 (ensured 𝓤 H A answer.ended (answer.clauses 𝓤 H A at-mem run) (κ, tt) (x, (L, (k, tt))) tt r) (fact 𝓤 (r ≡ overviewAnswer (x .now) L k))
   answer-said κ x L k r = exE 𝓤 _ (λ ws. snd∗ 𝓤 (sem 𝓤 H A (lasts answer.ended (κ, tt) (x, (L, (k, tt))) ws)) (fact 𝓤 (r ≡ overviewAnswer (x .now) L k)))
@@ -215,10 +215,10 @@ module _ {M : Type 1} (𝓤 : URA M) (H : Heap 𝓤) (A : Atoms 𝓤) (W : Given
       qed W (‵ (flft κ′ q′) ∷ ‵ Own ∷ []) ∵ nothing ! $ move ! (1 ∷ 0 ∷ []) $ join ! $ nothing ! $ owned ! usize (Is usize) (uint-makes 𝓤 H A W w64) (length ys) _ (refl, k-fits) $ fjoin ! $
       owned ! u32 (Is u32) (uint-makes 𝓤 H A W w32) L _ (refl, L-fits) $ fjoin ! $ move ! (2 ∷ 0 ∷ []) $ fjoin ! $ move ! (1 ∷ 0 ∷ []) $ join ! $ frame ! $ done !
 
-  abbrev to-row : ℕ → RowAt 𝓤 H A at-mem run .Ghost
+  abbrev to-row : ℕ → RowIn 𝓤 H A at-mem run .Ghost
   to-row i = (((κ′, tt), (q′, tt), tt, (m, (i, tt)), (u ∷ [], (vint w64 i ∷ [], tt))), tt)
 
-  goes-row : (i : ℕ) → i < 2 ^ 64 → i < n → ent 𝓤 (sep 𝓤 (A .lft κ′ q′) (sem 𝓤 H A Own)) (RowAt 𝓤 H A at-mem run .pre (to-row i))
+  goes-row : (i : ℕ) → i < 2 ^ 64 → i < n → ent 𝓤 (sep 𝓤 (A .lft κ′ q′) (sem 𝓤 H A Own)) (RowIn 𝓤 H A at-mem run .pre (to-row i))
   goes-row i i-fits small =
       qed W (‵ (flft κ′ q′) ∷ ‵ Own ∷ []) ∵ says ! (due-inside ms L (length ys) i small) $ nothing ! $ move ! (1 ∷ 0 ∷ []) $ join ! $ frame ! $
       nothing ! $ owned ! usize (Is usize) (uint-makes 𝓤 H A W w64) i _ (refl, i-fits) $ fjoin ! $ move ! (1 ∷ 0 ∷ []) $ fjoin ! $ done !
@@ -252,7 +252,7 @@ module _ {M : Type 1} (𝓤 : URA M) (H : Heap 𝓤) (A : Atoms 𝓤) (W : Given
     abbrev At : ℕ → List (Item 𝓤)
     At i = Had (F i) i
 
-    module _ (known-row : Triple 𝓤 (𝓣 .C #standby·row-at) (RowAt 𝓤 H A at-mem run)) (known-answer : Triple 𝓤 (𝓣 .C #standby·answer) (Answer 𝓤 H A at-mem run)) where
+    module _ (known-row : Triple 𝓤 (𝓣 .C #standby·row-in) (RowIn 𝓤 H A at-mem run)) (known-answer : Triple 𝓤 (𝓣 .C #standby·answer) (Answer 𝓤 H A at-mem run)) where
       module _ (n-fits : n < 2 ^ 64) where
         -- the invariant, where t lots are left
         abbrev Inv : ℕ → SProp 𝓤
@@ -273,23 +273,23 @@ module _ {M : Type 1} (𝓤 : URA M) (H : Heap 𝓤) (A : Atoms 𝓤) (W : Given
             assigns ! (bin ! (load ! (from ! (stop !)) (look ! 6 refl)) (load ! (from ! (stop !)) (look ! 13 refl)) tt) (from ! (stop !)) (init ! 8 refl (tt, tt)) $
             rewrite ! 8 (λ (t : Bool). ‵ (fat fullShare tyBool l₈ 0 (vbool t))) (holds (ltb i n) (lt→ltb i n small)) refl $
             stays ! (load ! (from ! (stop !)) (look ! 8 refl)) $
-            -- the call of `row_at`, which takes a copy of the bytes' reference
-            move ! (4 ∷ []) $ use1 W (‵ Own ⊛ ‵ Own) (shr-slice-copy 𝓤 H A W (named 0) κ′ u8 .twice m (u ∷ [])) $ split ! $ move ! (6 ∷ 0 ∷ []) $ use2 W (raw (RowAt 𝓤 H A at-mem run .pre (to-row i))) (goes-row i i-fits small) $
-            -- [what `row_at` asks; what the memory owns; the rows; the open borrow; obs; auth; _6; _7; _8; _9; _10; _3; _1; _5; ..]
-            calls-at ! (fmOf 𝓤 H (W .laws) 𝓣) (RowAt 𝓤 H A at-mem run) known-row (to-row i) (and-then ! (load ! (from ! (stop !)) (look ! 12 refl)) (and-then ! (load ! (from ! (stop !)) (look ! 6 refl)) (no-more !))) (λ v.
-            use1 W (later (some (λ (r : Row). ((‵ (flft κ′ q′) ⊛ ‵ ftrue) ⊛ ‵ (R .own r (v ∷ []))) ⊛ raw (ensured 𝓤 H A row-at.ended (row-at.clauses 𝓤 H A at-mem run) (κ′, tt) (m, (i, tt)) tt r)))) (id⊢ 𝓤 _) $ await ! tt $ pick ! (λ r.
-            split ! $ move ! (1 ∷ []) $ use1 W (raw (fact 𝓤 (r ≡ rowAt ms i))) (row-said 𝓤 H A at-mem run κ′ m i r) $ heard ! (r ≡ rowAt ms i) (λ e. split ! $ move ! (1 ∷ []) $
-            rewrite ! 0 (λ (z : Row). ‵ (R .own z (v ∷ []))) e refl $ peeks ! R (Is R) (shows 𝓤 H A R) (rowAt ms i) (v ∷ []) (λ is.
+            -- the call of `row_in`, which takes a copy of the bytes' reference
+            move ! (4 ∷ []) $ use1 W (‵ Own ⊛ ‵ Own) (shr-slice-copy 𝓤 H A W (named 0) κ′ u8 .twice m (u ∷ [])) $ split ! $ move ! (6 ∷ 0 ∷ []) $ use2 W (raw (RowIn 𝓤 H A at-mem run .pre (to-row i))) (goes-row i i-fits small) $
+            -- [what `row_in` asks; what the memory owns; the rows; the open borrow; obs; auth; _6; _7; _8; _9; _10; _3; _1; _5; ..]
+            calls-at ! (fmOf 𝓤 H (W .laws) 𝓣) (RowIn 𝓤 H A at-mem run) known-row (to-row i) (and-then ! (load ! (from ! (stop !)) (look ! 12 refl)) (and-then ! (load ! (from ! (stop !)) (look ! 6 refl)) (no-more !))) (λ v.
+            use1 W (later (some (λ (r : Row). ((‵ (flft κ′ q′) ⊛ ‵ ftrue) ⊛ ‵ (R .own r (v ∷ []))) ⊛ raw (ensured 𝓤 H A row-in.ended (row-in.clauses 𝓤 H A at-mem run) (κ′, tt) (m, (i, tt)) tt r)))) (id⊢ 𝓤 _) $ await ! tt $ pick ! (λ r.
+            split ! $ move ! (1 ∷ []) $ use1 W (raw (fact 𝓤 (r ≡ rowOn ms i))) (row-said 𝓤 H A at-mem run κ′ m i r) $ heard ! (r ≡ rowOn ms i) (λ e. split ! $ move ! (1 ∷ []) $
+            rewrite ! 0 (λ (z : Row). ‵ (R .own z (v ∷ []))) e refl $ peeks ! R (Is R) (shows 𝓤 H A R) (rowOn ms i) (v ∷ []) (λ is.
             -- [what the row owns; the token; what the memory owns; the rows; the open borrow; obs; auth; _6; _7; _8; _9; _10; _3; _1; _5; ..]
-            land ! (from ! (stop !)) (init ! 8 refl (LL.lawful T.the-type T′.the-laws 𝓤 H A W .typed (rowAt ms i) _ is .0)) $
+            land ! (from ! (stop !)) (init ! 8 refl (LL.lawful T.the-type T′.the-laws 𝓤 H A W .typed (rowOn ms i) _ is .0)) $
             assigns ! (bin ! (load ! (from ! (stop !)) (look ! 7 refl)) (lit ! tt) (record { fits = at-fits })) (from ! (stop !)) (init ! 10 refl (tt, record { fits = at-fits })) $
             assigns ! (bin ! (load ! (from ! (fld ! refl (stop !))) (look-in ! 12 (sub ! 0 refl (whole !)))) (load ! (from ! (stop !)) (look ! 10 refl)) tt) (from ! (stop !)) (init ! 11 refl (tt, tt)) $
             rewrite ! 11 (λ (p : ℕ). ‵ (fat fullShare tyPtr l₁₀ 0 (vptr b p))) (sym (place-is 16 o i)) refl $
             -- the element at i is taken out, stored over, and put back
-            move ! (3 ∷ []) $ elem-out ! R (Is R) (shows 𝓤 H A R) vals (LL.tells T.the-type T′.the-laws) fullShare (F i) i (rowAt ms i) b o within (λ _.
+            move ! (3 ∷ []) $ elem-out ! R (Is R) (shows 𝓤 H A R) vals (LL.tells T.the-type T′.the-laws) fullShare (F i) i (rowOn ms i) b o within (λ _.
             -- [rows[i]; what it owns; the others; what the row owns; the token; what the memory owns; the open borrow; obs; auth; _6; _7; _8; _9; _10; _3; _1; _5; ..]
-            assigns ! (of-opd ! (load ! (from ! (stop !)) (look ! 10 refl))) (from ! (hop ! (look ! 13 refl) (stop !))) (store-raw ! 0 refl (LL.lawful T.the-type T′.the-laws 𝓤 H A W .typed (rowAt ms i) _ is .0)) $
-            move ! (0 ∷ 3 ∷ 2 ∷ []) $ elem-put ! R fullShare (F i) i (rowAt ms i) (v ∷ []) b o within $ rewrite ! 0 (λ (l : List Row). ‵ (row R fullShare l b o)) (row-more ms ys i in-rows) refl $ move ! (1 ∷ []) $ drop ! $
+            assigns ! (of-opd ! (load ! (from ! (stop !)) (look ! 10 refl))) (from ! (hop ! (look ! 13 refl) (stop !))) (store-raw ! 0 refl (LL.lawful T.the-type T′.the-laws 𝓤 H A W .typed (rowOn ms i) _ is .0)) $
+            move ! (0 ∷ 3 ∷ 2 ∷ []) $ elem-put ! R fullShare (F i) i (rowOn ms i) (v ∷ []) b o within $ rewrite ! 0 (λ (l : List Row). ‵ (row R fullShare l b o)) (row-more ms ys i in-rows) refl $ move ! (1 ∷ []) $ drop ! $
             -- [the rows; the token; what the memory owns; the open borrow; obs; auth; _6; _7; _8; _9; _10; _3; _1; _5; ..]
             assigns-last ! (bin ! (load ! (from ! (stop !)) (look ! 6 refl)) (lit ! tt) (record { fits = next-fits })) (from ! (stop !)) (store ! 6 refl (tt, record { fits = next-fits })) $
             forget ! 7 refl $ forget ! 8 refl $ forget ! 9 refl $ forget ! 10 refl $ rewrite ! 6 (λ (j : ℕ). ‵ (fat fullShare word l₆ 0 (vint w64 j))) (one-more i) refl $
@@ -370,7 +370,7 @@ module _ {M : Type 1} (𝓤 : URA M) (H : Heap 𝓤) (A : Atoms 𝓤) (W : Given
           keep ! (0 ∷ 1 ∷ 2 ∷ 3 ∷ 7 ∷ 5 ∷ 8 ∷ 9 ∷ 10 ∷ 11 ∷ 12 ∷ 13 ∷ 14 ∷ 15 ∷ 16 ∷ 17 ∷ 18 ∷ 19 ∷ 20 ∷ 21 ∷ 22 ∷ 23 ∷ 24 ∷ 25 ∷ 26 ∷ 27 ∷ 28 ∷ 29 ∷ []) $ by ! (starts (is .1))))))
 
   -- the MIR up to there: the parameters, and how many rows are lent
-  walk : (𝓣 : Tables 𝓤 H) → Triple 𝓤 (𝓣 .C #standby·rows-due) (RowsDue 𝓤 H A at-mem run) → Triple 𝓤 (𝓣 .C #standby·row-at) (RowAt 𝓤 H A at-mem run) → Triple 𝓤 (𝓣 .C #standby·answer) (Answer 𝓤 H A at-mem run) → Room R (length ys) → Room u8 (length ms)
+  walk : (𝓣 : Tables 𝓤 H) → Triple 𝓤 (𝓣 .C #standby·rows-due) (RowsDue 𝓤 H A at-mem run) → Triple 𝓤 (𝓣 .C #standby·row-in) (RowIn 𝓤 H A at-mem run) → Triple 𝓤 (𝓣 .C #standby·answer) (Answer 𝓤 H A at-mem run) → Room R (length ys) → Room u8 (length ms)
       → ent 𝓤 (onEntry 𝓤 H A f.signature (κ′, (κ, tt)) (q′, (q, tt)) a at) (WpFn 𝓤 H (𝓣 .C) (𝓣 .Λ) function (u ∷ vint w32 L ∷ s ∷ []) Post)
   walk 𝓣 known-due known-row known-answer g g′ =
       qed W ((‵ (flft κ′ q′) ⊛ ‵ (flft κ q) ⊛ ‵ ftrue) ∷ ‵ (owns (ShrSlice (named 0) κ′ u8 ∷ u32 ∷ MutSlice (named 1) κ R ∷ []) a at) ∷ []) ∵ enter ! (𝓣 .C) (𝓣 .Λ) function (u ∷ vint w32 L ∷ s ∷ []) _ $
@@ -382,7 +382,7 @@ module _ {M : Type 1} (𝓤 : URA M) (H : Heap 𝓤) (A : Atoms 𝓤) (W : Given
       -- [memory's token; rows's; true; what rows owns; true; what the memory owns, twice; _10; …; _9; …; .. ; _1; …; room for _0; …]
       keep ! (0 ∷ 5 ∷ 6 ∷ 1 ∷ 3 ∷ 15 ∷ 13 ∷ 11 ∷ 9 ∷ 7 ∷ 21 ∷ 25 ∷ 17 ∷ 23 ∷ 19 ∷ 27 ∷ 28 ∷ 26 ∷ 24 ∷ 22 ∷ 20 ∷ 18 ∷ 16 ∷ 14 ∷ 12 ∷ 10 ∷ 8 ∷ []) $ by ! (opened 𝓣 g l₀ l₁ l₂ l₃ l₄ l₅ l₆ l₇ l₈ l₉ l₁₀ known-row known-answer known-due))))))))))))
 
-module _ {M : Type 1} (𝓤 : URA M) (H : Heap 𝓤) (A : Atoms 𝓤) (W : Given 𝓤 H A) (at-mem : Memory → SProp 𝓤) (run : Routine → Fun 𝓤) (𝓣 : Tables 𝓤 H) (known-due : Triple 𝓤 (𝓣 .C #standby·rows-due) (RowsDue 𝓤 H A at-mem run)) (known-row : Triple 𝓤 (𝓣 .C #standby·row-at) (RowAt 𝓤 H A at-mem run)) (known-answer : Triple 𝓤 (𝓣 .C #standby·answer) (Answer 𝓤 H A at-mem run)) where
+module _ {M : Type 1} (𝓤 : URA M) (H : Heap 𝓤) (A : Atoms 𝓤) (W : Given 𝓤 H A) (at-mem : Memory → SProp 𝓤) (run : Routine → Fun 𝓤) (𝓣 : Tables 𝓤 H) (known-due : Triple 𝓤 (𝓣 .C #standby·rows-due) (RowsDue 𝓤 H A at-mem run)) (known-row : Triple 𝓤 (𝓣 .C #standby·row-in) (RowIn 𝓤 H A at-mem run)) (known-answer : Triple 𝓤 (𝓣 .C #standby·answer) (Answer 𝓤 H A at-mem run)) where
   overview-walks : Walks 𝓤 H A f.ended stayed (WpFn 𝓤 H (𝓣 .C) (𝓣 .Λ) code.function) (f.clauses 𝓤 H A at-mem run)
   overview-walks = walked 𝓤 H A f.ended stayed (f.clauses 𝓤 H A at-mem run) (WpFn 𝓤 H (𝓣 .C) (𝓣 .Λ) code.function)
       (λ κs. (slice-vals, (uint-vals w32, (slice-vals, tt)))) (λ κs. (shr-slice-tells (named 0) (κs .0) u8, (uint-tells w32, (mut-slice-tells (named 1) (κs .1 .0) R, tt))))
@@ -401,5 +401,5 @@ overview-spec 𝓤 H 𝓜 𝓖 𝓡 =
     (tables 𝓤 H 𝓜 𝓡 code.env .C) (tables 𝓤 H 𝓜 𝓡 code.env .Λ) #standby·overview code.function (code.unfolded 𝓤 H 𝓜 𝓡)
     (overview-meets 𝓤 H (𝓖 .A) (givenOf 𝓤 H 𝓜 𝓖) (𝓜 .mem) (𝓡 .run) (tablesOf 𝓤 H 𝓜 (tables 𝓤 H 𝓜 𝓡 code.env))
     (cited 𝓤 H (RowsDue 𝓤 H (𝓖 .A) (𝓜 .mem) (𝓡 .run)) 𝓜 𝓡 code.env #standby·rows-due rows-due-def.routine code.calls-standby·rows-due (rows-due-thm.met 𝓤 H 𝓜 𝓖 𝓡))
-    (cited 𝓤 H (RowAt 𝓤 H (𝓖 .A) (𝓜 .mem) (𝓡 .run)) 𝓜 𝓡 code.env #standby·row-at row-at-def.routine code.calls-standby·row-at (row-at-thm.met 𝓤 H 𝓜 𝓖 𝓡))
+    (cited 𝓤 H (RowIn 𝓤 H (𝓖 .A) (𝓜 .mem) (𝓡 .run)) 𝓜 𝓡 code.env #standby·row-in row-in-def.routine code.calls-standby·row-in (row-in-thm.met 𝓤 H 𝓜 𝓖 𝓡))
     (cited 𝓤 H (Answer 𝓤 H (𝓖 .A) (𝓜 .mem) (𝓡 .run)) 𝓜 𝓡 code.env #standby·answer answer-def.routine code.calls-standby·overview-answer (answer-thm.met 𝓤 H 𝓜 𝓖 𝓡)))

@@ -1,11 +1,11 @@
 -- `survey_lots` answers what all lots are, for a call that opens an account. The invariant: it has what the first i lots are. Assumes nothing.
 use borrow.Author.Needs.{needs}
 use Prim.Native.Nat.{_≤_, _-_}
-use mathlib.Core.Path.{_≡_, refl, sym, ap, _∙_}
+use mathlib.Core.Path.{_≡_, refl}
 use native.Mathlib.Omega.{arith}
 use native.Mathlib.Numerals.{add-one}
 use Rattle.standby.specs.Memory.{someBelow, lowestBelow}
-use Rattle.standby.specs.Looks.{lookFrom, surveyOf, withLook}
+use Rattle.standby.specs.Looks.{surveyOf}
 use Rattle.standby.proofs.Looks.{survey-more}
 use Rattle.standby.proofs.survey_lots.Statement.{statement}
 use Rattle.standby.proofs.survey_lots.Tie as tie

@@ -1,5 +1,4 @@
 -- `with_look` adds a look to a survey. Assumes nothing.
-use mathlib.Core.Path.{_≡_}
 use borrow.Author.Needs.{needs}
 use Rattle.standby.proofs.with_look.Statement.{statement}
 use Rattle.standby.proofs.with_look.Tie as tie
