@@ -1,4 +1,4 @@
-// Installing the pieces of an epoch: each is listed, and its writes are applied to the records, in the order of document 01.
+// Installing the pieces of an epoch: each is listed, and its writes are applied to the records, in the order of docs/RULES.md.
 // It stands on `verdicts`, which says what is installed, on `lookback` and `held`, and on `lot` for the records.
 ghost use mathlib.Core.Path.{_≡_};
 ghost use Prim.Native.Nat.{_+_, _*_, _≤_, _<_};
