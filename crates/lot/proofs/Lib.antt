@@ -4,3 +4,8 @@ pub mod Records
 pub mod Looks
 pub mod Shown
 pub mod Views
+pub mod Parts
+pub mod Fresh
+pub mod Changes
+pub mod RecordSet
+pub mod Looked

@@ -5,9 +5,14 @@ use Rattle.wire.specs.Numbers.{bytes16, bytes32}
 use Rattle.lot.specs.Layout.{OPEN}
 use Rattle.lot.specs.View.{numberOf, fragmentsOf, keysOf, countOf, closedOf}
 use Rattle.lot.specs.declared.Account.{Account}
+use Rattle.model.specs.Account as model
 
 unfoldable pub numbersOf : List ℕ → Account
 numbersOf h = record { number = numberOf h; fragments = fragmentsOf h; keys = keysOf h; held = countOf h; closed = closedOf h }
+
+-- those of the account a, of which n entries are held
+abbrev pub numbersWith : ℕ → model.Account → Account
+numbersWith n a = record { number = a .number; fragments = a .fragments; keys = a .keys; held = n; closed = a .closed }
 
 -- those of an account that was just opened
 abbrev pub freshNumbers : ℕ → ℕ → ℕ → Account

@@ -2,15 +2,18 @@
 // Each reader and writer takes one section; the functions on a whole lot lend the sections as parts of it.
 // It stands on `wire`, `model` and `held`, whose test of the places is a part of the damage test.
 ghost use mathlib.Core.Path.{_≡_};
+ghost use mathlib.Core.Bool.{true};
+ghost use mathlib.Core.List.{_++_};
 ghost use Prim.Native.Nat.{_+_, _*_, _<_, _≤_};
 ghost use lib.ListN.{length, drop};
-ghost use Rattle.model.specs.Account.{accountFits};
+ghost use Rattle.model.specs.Account.{accountFits, fresh};
 ghost use Rattle.model.specs.Decoding.{countersOf, same};
-ghost use Rattle.lot.specs.Layout.{SIZE};
-ghost use Rattle.lot.specs.View.{tagOf, recordAt, headFits, streamFits, allBelow, fits};
+ghost use Rattle.lot.specs.Layout.{SIZE, FREE, headOf, streamsOf, placesOf, recordsOf};
+ghost use Rattle.lot.specs.View.{tagOf, recordAt, headFits, streamFits, allBelow, fits, viewLot, holds};
 ghost use Rattle.lot.specs.Look.{lookOf};
+ghost use Rattle.lot.specs.Sections.{WithHead, WithStreams, WithRecords};
 ghost use Rattle.lot.specs.Head.{numbersOf, freshNumbers, headBytes};
-ghost use Rattle.lot.specs.Writing.{withCounters, withRecord, withoutRecord, foundOf};
+ghost use Rattle.lot.specs.Writing.{withCounters, freshStreams, withRecord, withoutRecord, Zeros, foundOf};
 use model::Counters;
 use model::Found;
 
@@ -138,6 +141,36 @@ pub fn delete_record(records: &mut [u8], i: usize, k: usize)
     records[(i * 128 + k) * 5] = 0;
 }
 
+// ---- the sections of a lot, to read
+
+pub fn head_of(lot: &[u8]) -> &[u8]
+    requires { ⌜ length (now lot) ≡ SIZE ⌝ }
+    ensures { λ r. ⌜ now r ≡ headOf (now (lot .entry)) ⌝ }
+{
+    &lot[0..16]
+}
+
+pub fn streams_of(lot: &[u8]) -> &[u8]
+    requires { ⌜ length (now lot) ≡ SIZE ⌝ }
+    ensures { λ r. ⌜ now r ≡ streamsOf (now (lot .entry)) ⌝ }
+{
+    &lot[16..80]
+}
+
+pub fn places_of(lot: &[u8]) -> &[u8]
+    requires { ⌜ length (now lot) ≡ SIZE ⌝ }
+    ensures { λ r. ⌜ now r ≡ placesOf (now (lot .entry)) ⌝ }
+{
+    &lot[80..5200]
+}
+
+pub fn records_of(lot: &[u8]) -> &[u8]
+    requires { ⌜ length (now lot) ≡ SIZE ⌝ }
+    ensures { λ r. ⌜ now r ≡ recordsOf (now (lot .entry)) ⌝ }
+{
+    &lot[5200..10320]
+}
+
 // ---- the test of a lot
 
 // Whether a head has this tag.
@@ -201,14 +234,102 @@ pub fn look_at(lot: &[u8]) -> Look
     requires { ⌜ length (now lot) ≡ SIZE ⌝ }
     ensures { λ r. ⌜ r ≡ lookOf (now (lot .entry)) ⌝ }
 {
-    if has_tag(&lot[0..16], b"FREE") {
+    let head = head_of(lot);
+    if has_tag(head, b"FREE") {
         return Look::Free;
     }
-    if !has_tag(&lot[0..16], b"OPEN") {
+    if !has_tag(head, b"OPEN") {
         return Look::Damaged;
     }
-    if !fits(&lot[0..16], &lot[16..80], &lot[80..5200]) {
+    if !fits(head, streams_of(lot), places_of(lot)) {
         return Look::Damaged;
     }
-    Look::Holds(Account::read(&lot[0..16]))
+    Look::Holds(Account::read(head))
+}
+
+// ---- writing in a lot: each function here lends one section, and the others stay
+
+pub fn set_head(lot: &mut [u8], account: Account)
+    requires { ⌜ length (now lot) ≡ SIZE ⌝ }
+    ensures { λ _. ⌜ WithHead (now (lot .entry)) (now (lot .exit)) (headBytes account) ⌝ }
+{
+    write_head(&mut lot[0..16], account);
+}
+
+pub fn set_counters(lot: &mut [u8], i: usize, c: Counters)
+    requires { ⌜ (length (now lot) ≡ SIZE) × (i < 8) ⌝ }
+    ensures { λ _. ⌜ WithStreams (now (lot .entry)) (now (lot .exit)) (withCounters (streamsOf (now (lot .entry))) i c) ⌝ }
+{
+    write_counters(&mut lot[16..80], i, c);
+}
+
+pub fn set_record(lot: &mut [u8], i: usize, k: usize, value: u32)
+    requires { ⌜ (length (now lot) ≡ SIZE) × (i < 8) × (k < 128) ⌝ }
+    ensures { λ _. ⌜ WithRecords (now (lot .entry)) (now (lot .exit)) (withRecord (recordsOf (now (lot .entry))) i k value) ⌝ }
+{
+    put_record(&mut lot[5200..10320], i, k, value);
+}
+
+pub fn unset_record(lot: &mut [u8], i: usize, k: usize)
+    requires { ⌜ (length (now lot) ≡ SIZE) × (i < 8) × (k < 128) ⌝ }
+    ensures { λ _. ⌜ WithRecords (now (lot .entry)) (now (lot .exit)) (withoutRecord (recordsOf (now (lot .entry))) i k) ⌝ }
+{
+    delete_record(&mut lot[5200..10320], i, k);
+}
+
+// ---- a whole lot
+
+// Makes all eight streams fresh.
+fn fresh_streams(streams: &mut [u8])
+    requires { ⌜ length (now streams) ≡ 64 ⌝ }
+    ensures { λ _. ⌜ now (streams .exit) ≡ freshStreams (now (streams .entry)) 8 ⌝ }
+{
+    let mut i: usize = 0;
+    while i < 8 {
+        write_counters(streams, i, Counters::fresh());
+        i += 1;
+    }
+}
+
+// Makes every record absent.
+fn clear_records(records: &mut [u8])
+    ensures { λ _. ⌜ Zeros (now (records .exit)) ⌝ }
+{
+    let mut i: usize = 0;
+    while i < records.len() {
+        records[i] = 0;
+        i += 1;
+    }
+}
+
+fn set_fresh_streams(lot: &mut [u8])
+    requires { ⌜ length (now lot) ≡ SIZE ⌝ }
+    ensures { λ _. ⌜ WithStreams (now (lot .entry)) (now (lot .exit)) (freshStreams (streamsOf (now (lot .entry))) 8) ⌝ }
+{
+    fresh_streams(&mut lot[16..80]);
+}
+
+fn unset_records(lot: &mut [u8])
+    requires { ⌜ length (now lot) ≡ SIZE ⌝ }
+    ensures { λ _. ⌜ WithRecords (now (lot .entry)) (now (lot .exit)) (recordsOf (now (lot .exit))) × Zeros (recordsOf (now (lot .exit))) ⌝ }
+{
+    clear_records(&mut lot[5200..10320]);
+}
+
+// Makes a lot free: it writes the tag and nothing else.
+pub fn free_lot(lot: &mut [u8])
+    requires { ⌜ length (now lot) ≡ SIZE ⌝ }
+    ensures { λ _. ⌜ now (lot .exit) ≡ FREE ++ drop 4 (now (lot .entry)) ⌝ }
+{
+    bytes::copy(b"FREE", lot);
+}
+
+// Opens an account in a lot, whatever stood there.
+pub fn open_lot(lot: &mut [u8], number: u16, fragments: u8, keys: u16)
+    requires { ⌜ (length (now lot) ≡ SIZE) × (accountFits number fragments keys ≡ true) ⌝ }
+    ensures { λ _. ⌜ viewLot (now (lot .exit)) ≡ holds (fresh number fragments keys) ⌝ }
+{
+    set_head(lot, Account::fresh(number, fragments, keys));
+    set_fresh_streams(lot);
+    unset_records(lot);
 }
