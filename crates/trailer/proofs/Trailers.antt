@@ -35,6 +35,7 @@ module _ (m : List ℕ) (t : Trailer) (len : length m ≡ 24) where
       let high : t .fragments / 256 ≡ 0 = omega arith in
       rw (spell 24 m len, low, high)
 
-  pub trailer-written : let w = with32 (with32 (countBytes t ++ drop 12 m) 12 (t .closed)) 16 (t .length) in take 20 w ++ (signature ++ drop 4 (drop 20 w)) ≡ trailerBytes t
+  pub trailer-written : (x y w q : List ℕ) → x ≡ countBytes t ++ drop 12 m → y ≡ with32 x 12 (t .closed) → w ≡ with32 y 16 (t .length) → q ≡ take 4 signature ++ drop 4 (take 4 (drop 20 w))
+      → take 20 w ++ (q ++ drop 4 (drop 20 w)) ≡ trailerBytes t
   unfolding countBytes trailerBytes with32 bytes16 bytes32 spelled
-  trailer-written = rw (spell 12 (drop 12 m) (omega (arith, length-drop 12 m)))
+  trailer-written x y w q ex ey ew eq = rw (eq, ew, ey, ex, spell 12 (drop 12 m) (omega (arith, length-drop 12 m)))

@@ -50,7 +50,11 @@ same-length c = search needs
 returns : tie.Need-returns
 returns c =
     let a = c .before .before .before .before .before .before .before .before .before .before .before .before .before .before .before .before .before .before in
-    ?
+    let w = c .before .before .before .before .before .before .before .before .before .before .before .before .before .before .before .write-counts in
+    let y = c .before .before .before .before .before .before .before .before .before .before .before .put32 in
+    let z = c .before .before .before .before .before .before .before .put322 in
+    let q = c .before .before .copy in
+    trailer-written (a .args .bytes .now) (a .args .t) (omega arith) (w .last .0) (y .last .0) (z .last .0) (q .last .1 .0) (w .ensures) (y .ensures) (z .ensures) (q .ensures .1)
 
 pub write-trailer-spec : {M : Type 1} → statement M
 write-trailer-spec =
