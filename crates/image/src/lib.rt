@@ -1,104 +1,90 @@
-// The saved image of one lot: judging data as the model's load does, saving a lot, and loading one.
-// It stands on `wire`, `model`, `held`, whose test of a held section the damage test shares, `lot`, `trailer`
-// and the kit's `bytes`.
+// The saved image of one lot: saving a lot, and loading one from data that were judged.
+// It stands on `wire`, `model`, `lot`, `writes`, `trailer`, `judging` and the kit's `bytes`.
 ghost use mathlib.Core.Path.{_≡_};
+ghost use mathlib.Core.List.{_∷_};
 ghost use Prim.Native.Nat.{_+_, _*_, _≤_, _<_};
-ghost use lib.ListN.{length, drop};
-ghost use Rattle.model.specs.Decoding.{place};
-ghost use Rattle.lot.specs.View.{allBelow};
-ghost use Rattle.trailer.specs.Trailer.{imageLength};
-ghost use Rattle.image.specs.Judging.{judgedOf, presentAt, inOrder, recordFits, sectionsFit};
+ghost use lib.ListN.{length};
+ghost use Rattle.model.specs.Image.{record8, each, LONGEST-IMAGE};
+ghost use Rattle.lot.specs.Layout.{SIZE};
+ghost use Rattle.lot.specs.Look.{lookOf};
+ghost use Rattle.lot.specs.declared.Look.the-variants.{Holds};
+ghost use Rattle.image.specs.Saving.{Written, presentIn, fragmentBytes, recordBytes, bodyBytes, LotSaved};
+use lot::Account;
+use model::Found;
 use trailer::Trailer;
 
-// ---- the records of an image
+// ---- saving; each function writes from an index on, and answers the index behind what it wrote
 
-// The place of a record among all that an account may have.
-fn place_of(fragment: u8, key: u16) -> u32
-    ensures { λ r. ⌜ r ≡ 128 * fragment + key ⌝ }
+fn save_bytes(from: &[u8], image: &mut [u8], at: usize) -> usize
+    requires { ⌜ at + length (now from) ≤ length (now image) ⌝ }
+    ensures { λ r. ⌜ Written (now (image .entry)) (now (image .exit)) at r (now (from .entry)) ⌝ }
 {
-    128 * (fragment as u32) + (key as u32)
+    bytes::copy(from, &mut image[at..]);
+    at + from.len()
 }
 
-fn place_at(records: &[u8], i: usize) -> u32
-    requires { ⌜ i * 8 + 8 ≤ length (now records) ⌝ }
-    ensures { λ r. ⌜ r ≡ place (presentAt (now (records .entry)) i) ⌝ }
+fn write_record(bytes: &mut [u8], fragment: u8, key: u16, value: u32)
+    requires { ⌜ length (now bytes) ≡ 8 ⌝ }
+    ensures { λ _. ⌜ now (bytes .exit) ≡ record8 (record { fragment = fragment; key = key; value = value }) ⌝ }
 {
-    place_of(records[i * 8], wire::get16(records, i * 8 + 2))
+    wire::put16(bytes, 0, fragment as u16);
+    wire::put16(bytes, 2, key);
+    wire::put32(bytes, 4, value);
 }
 
-// Record i comes after the one before it: by fragment, then key, without repeats.
-fn in_order(records: &[u8], i: usize) -> bool
-    requires { ⌜ i * 8 + 8 ≤ length (now records) ⌝ }
-    ensures { λ r. ⌜ r ≡ inOrder (now (records .entry)) i ⌝ }
+// The record of fragment i and key k, if it is present.
+fn save_record(records: &[u8], i: usize, k: usize, image: &mut [u8], at: usize) -> usize
+    requires { ⌜ (length (now records) ≡ 5120) × (i < 8) × (k < 128) × (at + 8 ≤ length (now image)) ⌝ }
+    ensures { λ r. ⌜ Written (now (image .entry)) (now (image .exit)) at r (each record8 (presentIn (now (records .entry)) i k)) ⌝ }
 {
-    if i == 0 {
-        return true;
+    match lot::read_record(records, i, k) {
+        Found::Present(value) => {
+            let end = at + 8;
+            write_record(&mut image[at..end], i as u8, k as u16, value);
+            return end;
+        }
+        _ => {
+            return at;
+        }
     }
-    place_at(records, i - 1) < place_at(records, i)
 }
 
-fn record_fits(records: &[u8], i: usize, fragments: u8, keys: u16) -> bool
-    requires { ⌜ i * 8 + 8 ≤ length (now records) ⌝ }
-    ensures { λ r. ⌜ r ≡ recordFits fragments keys (now (records .entry)) i ⌝ }
+// The present records of fragment i, by key.
+fn save_fragment(records: &[u8], i: usize, keys: usize, image: &mut [u8], at: usize) -> usize
+    requires { ⌜ (length (now records) ≡ 5120) × (i < 8) × (keys ≤ 128) × (at + 1024 ≤ length (now image)) ⌝ }
+    ensures { λ r. ⌜ Written (now (image .entry)) (now (image .exit)) at r (fragmentBytes (now (records .entry)) i keys) × (r ≤ at + 1024) ⌝ }
 {
-    (records[i * 8 + 1] == 0)
-        & (records[i * 8] < fragments)
-        & (wire::get16(records, i * 8 + 2) < keys)
-        & in_order(records, i)
+    let mut end = at;
+    let mut k: usize = 0;
+    while k < keys {
+        end = save_record(records, i, k, image, end);
+        k += 1;
+    }
+    end
 }
 
-// The first n records.
-fn records_fit(records: &[u8], n: usize, fragments: u8, keys: u16) -> bool
-    requires { ⌜ n * 8 ≤ length (now records) ⌝ }
-    ensures { λ r. ⌜ r ≡ allBelow (recordFits fragments keys (now (records .entry))) n ⌝ }
+// The present records, by fragment, then key.
+fn save_records(records: &[u8], keys: usize, fragments: usize, image: &mut [u8], at: usize) -> usize
+    requires { ⌜ (length (now records) ≡ 5120) × (keys ≤ 128) × (fragments ≤ 8) × (at + 8192 ≤ length (now image)) ⌝ }
+    ensures { λ r. ⌜ Written (now (image .entry)) (now (image .exit)) at r (recordBytes (now (records .entry)) keys fragments) × (r ≤ at + 8192) ⌝ }
 {
-    let mut ok = true;
+    let mut end = at;
     let mut i: usize = 0;
-    while i < n {
-        ok = ok & record_fits(records, i, fragments, keys);
+    while i < fragments {
+        end = save_fragment(records, i, keys, image, end);
         i += 1;
     }
-    ok
+    end
 }
 
-// ---- judging
-
-// The sections of an image whose trailer has the numbers t.
-fn sections_fit(image: &[u8], t: Trailer) -> bool
-    requires { ⌜ (length (now image) ≡ imageLength (t .fragments) (t .records) (t .held)) × (t .held ≤ 256) ⌝ }
-    ensures { λ r. ⌜ r ≡ sectionsFit t (now (image .entry)) ⌝ }
+// All but the trailer.
+fn save_body(lot: &[u8], account: Account, image: &mut [u8]) -> usize
+    requires { ⌜ (length (now lot) ≡ SIZE) × (account .fragments ≤ 8) × (account .keys ≤ 128) × (account .held ≤ 256) × (LONGEST-IMAGE ≤ length (now image)) ⌝ }
+    ensures { λ r. ⌜ Written (now (image .entry)) (now (image .exit)) 0 r (bodyBytes (now (lot .entry)) account) ⌝ }
 {
-    let a = (t.fragments as usize) * 8;
-    let b = a + (t.records as usize) * 8;
-    lot::streams_fit(image, t.fragments as usize, t.closed)
-        & records_fit(&image[a..], t.records as usize, t.fragments, t.keys)
-        & held::section_fits(image, &image[b..], t.fragments, t.keys, t.closed, t.held as usize)
-}
-
-pub enum Judged {
-    NotAccepted,
-    Accepted(Trailer),
-}
-
-// Whether data ends with an image, and the numbers of its trailer. The signature is compared first, then the
-// trailer is judged, then followed back: as many last bytes are read as it says, and none before them.
-pub fn judge_image(data: &[u8]) -> Judged
-    ensures { λ r. ⌜ r ≡ judgedOf (now («data» .entry)) ⌝ }
-{
-    let n = data.len();
-    if n < Trailer::LENGTH {
-        return Judged::NotAccepted;
-    }
-    let last = &data[n - Trailer::LENGTH..];
-    if !trailer::is_signed(last) {
-        return Judged::NotAccepted;
-    }
-    if !trailer::trailer_fits(last, n) {
-        return Judged::NotAccepted;
-    }
-    let t = Trailer::read(last);
-    if !sections_fit(&data[n - (t.length as usize)..], t) {
-        return Judged::NotAccepted;
-    }
-    Judged::Accepted(t)
+    let streams = (account.fragments as usize) * 8;
+    let places = (account.held as usize) * 20;
+    let a = save_bytes(&lot::streams_of(lot)[0..streams], image, 0);
+    let b = save_records(lot::records_of(lot), account.keys as usize, account.fragments as usize, image, a);
+    save_bytes(&lot::places_of(lot)[0..places], image, b)
 }

@@ -1,12 +1,12 @@
 -- The counters of each stream after those of one are written. Assumes nothing.
 use Prim.Native.Nat.{ℕ, _+_, _*_, _-_, _≤_, _<_, _^_}
-use mathlib.Core.Path.{_≡_, refl, sym, ap, _∙_}
+use mathlib.Core.Path.{_≡_, sym, _∙_}
 use mathlib.Core.Logic.{_⊎_, inl, inr, ⊎-elim}
 use mathlib.Core.List.{List}
 use native.Mathlib.Omega.{arith}
 use native.Mathlib.Nat.{eq-zero-or-pos}
 use lib.ListN.{length, drop}
-use Rattle.wire.specs.Numbers.{number16, number32, with16, with32}
+use Rattle.wire.specs.Numbers.{number16, number32, with16}
 use Rattle.wire.specs.Laws.{Same, length-put16, length-put32, get16-put16, get32-put32, put16-same, put32-same, le16-same, le32-same}
 use Rattle.model.specs.Decoding.{countersOf}
 use Rattle.model.specs.declared.Counters.{Counters}

@@ -1,11 +1,8 @@
+pub mod Lengths
 pub mod Heads
 pub mod Counters
 pub mod Records
 pub mod Looks
 pub mod Shown
 pub mod Views
-pub mod Parts
-pub mod Fresh
-pub mod Changes
-pub mod RecordSet
 pub mod Looked

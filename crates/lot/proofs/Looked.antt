@@ -11,8 +11,8 @@ use Rattle.lot.specs.Head.{numbersOf, numbersWith}
 use Rattle.lot.specs.Look.{lookAs, lookOf}
 use Rattle.lot.specs.declared.Account.{Account}
 use Rattle.lot.specs.declared.Look.the-variants.{Free, Damaged, Holds}
+use Rattle.lot.proofs.Shown.{shown-numbers}
 use Rattle.lot.proofs.Views.{holds-shown, shown-count}
-use Rattle.lot.proofs.Changes.{shown-numbers}
 
 -- the lot holds an account, and m are its numbers
 pub record LooksHeld (l : List ℕ) (m : Account) : Type 0 where

@@ -1,9 +1,8 @@
 -- The well-formedness test and the look at a lot, a law for each answer. Assumes nothing.
 use Prim.Native.Nat.{ℕ, _≤_}
-use mathlib.Core.Path.{_≡_, refl, sym, ap, _∙_}
+use mathlib.Core.Path.{_≡_}
 use mathlib.Core.Bool.{true, false, _&&_, and-true}
 use mathlib.Core.List.{List}
-use native.Mathlib.Omega.{arith}
 use borrow.Author.Tests.{leb-true}
 use Rattle.model.specs.Lists.{every}
 use Rattle.model.specs.Account.{accountFits, MOST-FRAGMENTS, MOST-HELD}

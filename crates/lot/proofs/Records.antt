@@ -1,15 +1,15 @@
 -- Each record after one is put or deleted. Assumes nothing.
 use Prim.Native.Nat.{ℕ, _+_, _*_, _-_, _≤_, _<_, _^_}
-use mathlib.Core.Path.{_≡_, refl, sym, ap, _∙_}
+use mathlib.Core.Path.{_≡_, _∙_}
 use mathlib.Core.Logic.{_⊎_, inl, inr, ⊎-elim}
 use mathlib.Core.List.{List}
 use native.Mathlib.Omega.{arith}
 use native.Mathlib.Nat.{eq-zero-or-pos}
 use lib.ListN.{length, getD, set, length-set}
 use lib.Seq.{getD-set-same, getD-set-other}
-use Rattle.wire.specs.Numbers.{number32, with32}
+use Rattle.wire.specs.Numbers.{with32}
 use Rattle.wire.specs.Laws.{Same, length-put32, get32-put32, put32-same, le32-same}
-use Rattle.model.specs.Account.{Record, absent, present}
+use Rattle.model.specs.Account.{absent, present}
 use Rattle.lot.specs.View.{recordAt}
 use Rattle.lot.specs.Writing.{withRecord, withoutRecord}
 

@@ -5,28 +5,27 @@ use mathlib.Core.Bool.{Bool, true, false, _&&_}
 use mathlib.Core.List.{List, [], map}
 use native.Mathlib.Omega.{arith}
 use native.Mathlib.Decide.{decLt}
-use lib.Dec.{leb, ltb, eqb}
+use lib.Dec.{ltb}
 use lib.ListN.{length, getD, drop, length-map}
 use borrow.Author.Tests.{eqb-true, eq-eqb, leb-true, le-leb, ltb-true, lt-ltb, le-ltb}
 use Rattle.wire.specs.Numbers.{number16, number32}
 use Rattle.model.specs.Lists.{if_then_else_, every, upward, sumBelow}
-use Rattle.model.specs.Account.{Record, absent, Fragment, Account, empty, freshCounters, accountFits, heldCount}
+use Rattle.model.specs.Account.{absent, Account, empty, freshCounters, heldCount}
 use Rattle.model.specs.Accepting.{WellFormed}
 use Rattle.model.specs.Image.{Item}
 use Rattle.model.specs.Decoding.{countersOf, parse, mine, countersAt, heldFits, same}
-use Rattle.model.specs.declared.Counters.{Counters}
 use Rattle.model.proofs.Tests.{no-way, and-l, and-r, and, nth}
 use Rattle.model.proofs.Sums.{sum-same}
 use Rattle.model.proofs.Buckets.{length-upward}
 use Rattle.model.proofs.Shows.{item, by-streams}
-use Rattle.model.proofs.Image.{same-true, same-refl}
-use Rattle.model.proofs.ByStream.{Sorted, held-fits, held-sorted, streams-fit}
+use Rattle.model.proofs.Image.{same-true}
+use Rattle.model.proofs.ByStream.{held-fits, held-sorted, streams-fit}
 use Rattle.model.specs.Section.{items}
 use Rattle.lookback.proofs.Places.{length-parse, getD-parse, number32-drop}
 use Rattle.model.specs.Section.{plain, sectionFits}
 use Rattle.lot.specs.Layout.{FREE, OPEN, headOf, streamsOf, placesOf, recordsOf}
-use Rattle.lot.specs.View.{tagOf, numberOf, fragmentsOf, keysOf, countOf, closedOf, recordAt, fragmentAt, accountOf, headFits, streamFits, allBelow, fits, Lot, free, damaged, holds, view, viewLot}
-use Rattle.lot.proofs.Shown.{HeadShows, StreamsShow, PlacesShow, RecordsShow, Shows, LotShows}
+use Rattle.lot.specs.View.{tagOf, fragmentsOf, keysOf, countOf, closedOf, recordAt, fragmentAt, accountOf, headFits, streamFits, allBelow, fits, free, damaged, holds, view, viewLot}
+use Rattle.lot.proofs.Shown.{PlacesShow, Shows, LotShows}
 
 -- ---- what is shared by both directions
 

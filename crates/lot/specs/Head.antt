@@ -1,6 +1,6 @@
 -- The numbers of an account as a lot's head has them, and the sixteen bytes of a head.
 use Prim.Native.Nat.{ℕ}
-use mathlib.Core.List.{List, [], _∷_, _++_}
+use mathlib.Core.List.{List, _∷_, _++_}
 use Rattle.wire.specs.Numbers.{bytes16, bytes32}
 use Rattle.lot.specs.Layout.{OPEN}
 use Rattle.lot.specs.View.{numberOf, fragmentsOf, keysOf, countOf, closedOf}

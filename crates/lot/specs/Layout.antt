@@ -1,5 +1,5 @@
 -- The bytes of one lot: 10,320, in four sections.
-use Prim.Native.Nat.{ℕ, _+_, _*_}
+use Prim.Native.Nat.{ℕ}
 use mathlib.Core.List.{List, [], _∷_}
 use lib.ListN.{take, drop}
 

@@ -3,4 +3,3 @@ pub mod View
 pub mod Head
 pub mod Writing
 pub mod Look
-pub mod Sections

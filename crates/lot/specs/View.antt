@@ -1,12 +1,12 @@
 -- What the bytes of a lot mean: it is free, damaged, or holds an account.
 use Prim.Native.Nat.{ℕ, zero, suc, _+_, _*_}
-use mathlib.Core.Bool.{Bool, true, false, _&&_}
+use mathlib.Core.Bool.{Bool, true, _&&_}
 use mathlib.Core.List.{List, [], _∷_}
 use lib.Dec.{leb, ltb, eqb}
 use lib.ListN.{getD, take, drop}
 use Rattle.wire.specs.Numbers.{number16, number32}
 use Rattle.model.specs.Lists.{if_then_else_, every}
-use Rattle.model.specs.Account.{Held, Record, absent, present, Fragment, Account, empty, accountFits, MOST-HELD}
+use Rattle.model.specs.Account.{Record, absent, present, Fragment, Account, empty, accountFits, MOST-HELD}
 use Rattle.model.specs.Decoding.{countersOf, itemOf, parse, mine, same}
 use Rattle.model.specs.Section.{sectionFits}
 use Rattle.lot.specs.Layout.{headOf, streamsOf, placesOf, recordsOf, FREE, OPEN}

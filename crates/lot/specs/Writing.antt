@@ -1,13 +1,9 @@
--- The streams and the records of a lot after a write, an account with another record, and a record as it is answered.
-use Prim.Native.Nat.{ℕ, zero, suc, _+_, _*_}
-use mathlib.Core.Path.{_≡_}
-use mathlib.Core.Bool.{_&&_}
+-- The streams and the records of a lot after a write, and a record as it is answered.
+use Prim.Native.Nat.{ℕ, _+_, _*_}
 use mathlib.Core.List.{List}
-use lib.Dec.{eqb}
-use lib.ListN.{getD, set}
+use lib.ListN.{set}
 use Rattle.wire.specs.Numbers.{with16, with32}
-use Rattle.model.specs.Lists.{if_then_else_}
-use Rattle.model.specs.Account.{Record, absent, present, Account, freshCounters}
+use Rattle.model.specs.Account.{Record, absent, present}
 use Rattle.model.specs.declared.Counters.{Counters}
 use Rattle.model.specs.declared.Found.{Found}
 use Rattle.model.specs.declared.Found.the-variants.{Present, Absent}
@@ -16,11 +12,6 @@ use Rattle.model.specs.declared.Found.the-variants.{Present, Absent}
 unfoldable pub withCounters : List ℕ → ℕ → Counters → List ℕ
 withCounters s i c = with32 (with16 (with16 s (i * 8) (c .next)) (i * 8 + 2) 0) (i * 8 + 4) (c .epoch)
 
--- the streams s with the first n fresh
-unfoldable pub freshStreams : List ℕ → ℕ → List ℕ
-freshStreams s zero = s
-freshStreams s (suc n) = withCounters (freshStreams s n) n freshCounters
-
 -- the records r with a value at fragment i and key k, and with none there: its four bytes stay
 unfoldable pub withRecord : List ℕ → ℕ → ℕ → ℕ → List ℕ
 withRecord r i k v = with32 (set r ((i * 128 + k) * 5) 1) ((i * 128 + k) * 5 + 1) v
@@ -28,20 +19,6 @@ withRecord r i k v = with32 (set r ((i * 128 + k) * 5) 1) ((i * 128 + k) * 5 + 1
 unfoldable pub withoutRecord : List ℕ → ℕ → ℕ → List ℕ
 withoutRecord r i k = set r ((i * 128 + k) * 5) 0
 
--- every byte of r is zero
-unfoldable pub Zeros : List ℕ → Type 0
-Zeros r = (n : ℕ) → getD r n 0 ≡ 0
-
 abbrev pub foundOf : Record → Found
 foundOf absent = Absent
 foundOf (present v) = Present v
-
--- the account a with the record x of fragment i and key k
-unfoldable pub recordSet : ℕ → ℕ → Record → Account → Account
-recordSet i k x a = record {
-  number = a .number;
-  fragments = a .fragments;
-  keys = a .keys;
-  closed = a .closed;
-  at = λ j. record { counters = a .at j .counters; held = a .at j .held; records = λ l. if eqb i j && eqb k l then x else a .at j .records l };
-}

@@ -1,21 +1,25 @@
 // One lot's bytes, in four sections: head, streams, places and records. What they mean stands in specs/View.antt.
-// Each reader and writer takes one section; the functions on a whole lot lend the sections as parts of it.
+// Each reader and writer takes one section and knows only its offsets; one look at a lot serves a whole call.
 // It stands on `wire`, `model` and `held`, whose test of the places is a part of the damage test.
 ghost use mathlib.Core.Path.{_≡_};
-ghost use mathlib.Core.Bool.{true};
-ghost use mathlib.Core.List.{_++_};
 ghost use Prim.Native.Nat.{_+_, _*_, _<_, _≤_};
 ghost use lib.ListN.{length, drop};
-ghost use Rattle.model.specs.Account.{accountFits, fresh};
+ghost use Rattle.model.specs.Account.{accountFits};
 ghost use Rattle.model.specs.Decoding.{countersOf, same};
-ghost use Rattle.lot.specs.Layout.{SIZE, FREE, headOf, streamsOf, placesOf, recordsOf};
-ghost use Rattle.lot.specs.View.{tagOf, recordAt, headFits, streamFits, allBelow, fits, viewLot, holds};
+ghost use Rattle.lot.specs.Layout.{SIZE, headOf, streamsOf, placesOf, recordsOf};
+ghost use Rattle.lot.specs.View.{tagOf, recordAt, headFits, streamFits, allBelow, fits};
 ghost use Rattle.lot.specs.Look.{lookOf};
-ghost use Rattle.lot.specs.Sections.{WithHead, WithStreams, WithRecords};
 ghost use Rattle.lot.specs.Head.{numbersOf, freshNumbers, headBytes};
-ghost use Rattle.lot.specs.Writing.{withCounters, freshStreams, withRecord, withoutRecord, Zeros, foundOf};
+ghost use Rattle.lot.specs.Writing.{withCounters, withRecord, withoutRecord, foundOf};
 use model::Counters;
 use model::Found;
+
+// Where the sections begin: streams, places and records, after the head; and the end of a lot.
+pub const STREAMS: usize = 16;
+
+pub const PLACES: usize = 80;
+
+pub const RECORDS: usize = 5200;
 
 pub const SIZE: usize = 10320;
 
@@ -147,28 +151,28 @@ pub fn head_of(lot: &[u8]) -> &[u8]
     requires { ⌜ length (now lot) ≡ SIZE ⌝ }
     ensures { λ r. ⌜ now r ≡ headOf (now (lot .entry)) ⌝ }
 {
-    &lot[0..16]
+    &lot[0..STREAMS]
 }
 
 pub fn streams_of(lot: &[u8]) -> &[u8]
     requires { ⌜ length (now lot) ≡ SIZE ⌝ }
     ensures { λ r. ⌜ now r ≡ streamsOf (now (lot .entry)) ⌝ }
 {
-    &lot[16..80]
+    &lot[STREAMS..PLACES]
 }
 
 pub fn places_of(lot: &[u8]) -> &[u8]
     requires { ⌜ length (now lot) ≡ SIZE ⌝ }
     ensures { λ r. ⌜ now r ≡ placesOf (now (lot .entry)) ⌝ }
 {
-    &lot[80..5200]
+    &lot[PLACES..RECORDS]
 }
 
 pub fn records_of(lot: &[u8]) -> &[u8]
     requires { ⌜ length (now lot) ≡ SIZE ⌝ }
     ensures { λ r. ⌜ now r ≡ recordsOf (now (lot .entry)) ⌝ }
 {
-    &lot[5200..10320]
+    &lot[RECORDS..SIZE]
 }
 
 // ---- the test of a lot
@@ -186,7 +190,9 @@ fn head_fits(head: &[u8]) -> bool
     ensures { λ r. ⌜ r ≡ headFits (now (head .entry)) ⌝ }
 {
     let a = Account::read(head);
-    account_fits(a.number as u32, a.fragments as u32, a.keys as u32) & (head[7] == 0) & (a.held <= Account::MOST_HELD)
+    account_fits(a.number as u32, a.fragments as u32, a.keys as u32)
+        & (head[7] == 0)
+        & (a.held <= Account::MOST_HELD)
 }
 
 fn stream_fits(streams: &[u8], i: usize, closed: u32) -> bool
@@ -220,7 +226,14 @@ fn fits(head: &[u8], streams: &[u8], places: &[u8]) -> bool
     }
     let a = Account::read(head);
     streams_fit(streams, a.fragments as usize, a.closed)
-        & held::section_fits(streams, places, a.fragments, a.keys, a.closed, a.held as usize)
+        & held::section_fits(
+            streams,
+            places,
+            a.fragments,
+            a.keys,
+            a.closed,
+            a.held as usize,
+        )
 }
 
 // What a lot is, and of an open one the account's numbers.
@@ -245,91 +258,4 @@ pub fn look_at(lot: &[u8]) -> Look
         return Look::Damaged;
     }
     Look::Holds(Account::read(head))
-}
-
-// ---- writing in a lot: each function here lends one section, and the others stay
-
-pub fn set_head(lot: &mut [u8], account: Account)
-    requires { ⌜ length (now lot) ≡ SIZE ⌝ }
-    ensures { λ _. ⌜ WithHead (now (lot .entry)) (now (lot .exit)) (headBytes account) ⌝ }
-{
-    write_head(&mut lot[0..16], account);
-}
-
-pub fn set_counters(lot: &mut [u8], i: usize, c: Counters)
-    requires { ⌜ (length (now lot) ≡ SIZE) × (i < 8) ⌝ }
-    ensures { λ _. ⌜ WithStreams (now (lot .entry)) (now (lot .exit)) (withCounters (streamsOf (now (lot .entry))) i c) ⌝ }
-{
-    write_counters(&mut lot[16..80], i, c);
-}
-
-pub fn set_record(lot: &mut [u8], i: usize, k: usize, value: u32)
-    requires { ⌜ (length (now lot) ≡ SIZE) × (i < 8) × (k < 128) ⌝ }
-    ensures { λ _. ⌜ WithRecords (now (lot .entry)) (now (lot .exit)) (withRecord (recordsOf (now (lot .entry))) i k value) ⌝ }
-{
-    put_record(&mut lot[5200..10320], i, k, value);
-}
-
-pub fn unset_record(lot: &mut [u8], i: usize, k: usize)
-    requires { ⌜ (length (now lot) ≡ SIZE) × (i < 8) × (k < 128) ⌝ }
-    ensures { λ _. ⌜ WithRecords (now (lot .entry)) (now (lot .exit)) (withoutRecord (recordsOf (now (lot .entry))) i k) ⌝ }
-{
-    delete_record(&mut lot[5200..10320], i, k);
-}
-
-// ---- a whole lot
-
-// Makes all eight streams fresh.
-fn fresh_streams(streams: &mut [u8])
-    requires { ⌜ length (now streams) ≡ 64 ⌝ }
-    ensures { λ _. ⌜ now (streams .exit) ≡ freshStreams (now (streams .entry)) 8 ⌝ }
-{
-    let mut i: usize = 0;
-    while i < 8 {
-        write_counters(streams, i, Counters::fresh());
-        i += 1;
-    }
-}
-
-// Makes every record absent.
-fn clear_records(records: &mut [u8])
-    ensures { λ _. ⌜ Zeros (now (records .exit)) ⌝ }
-{
-    let mut i: usize = 0;
-    while i < records.len() {
-        records[i] = 0;
-        i += 1;
-    }
-}
-
-fn set_fresh_streams(lot: &mut [u8])
-    requires { ⌜ length (now lot) ≡ SIZE ⌝ }
-    ensures { λ _. ⌜ WithStreams (now (lot .entry)) (now (lot .exit)) (freshStreams (streamsOf (now (lot .entry))) 8) ⌝ }
-{
-    fresh_streams(&mut lot[16..80]);
-}
-
-fn unset_records(lot: &mut [u8])
-    requires { ⌜ length (now lot) ≡ SIZE ⌝ }
-    ensures { λ _. ⌜ WithRecords (now (lot .entry)) (now (lot .exit)) (recordsOf (now (lot .exit))) × Zeros (recordsOf (now (lot .exit))) ⌝ }
-{
-    clear_records(&mut lot[5200..10320]);
-}
-
-// Makes a lot free: it writes the tag and nothing else.
-pub fn free_lot(lot: &mut [u8])
-    requires { ⌜ length (now lot) ≡ SIZE ⌝ }
-    ensures { λ _. ⌜ now (lot .exit) ≡ FREE ++ drop 4 (now (lot .entry)) ⌝ }
-{
-    bytes::copy(b"FREE", lot);
-}
-
-// Opens an account in a lot, whatever stood there.
-pub fn open_lot(lot: &mut [u8], number: u16, fragments: u8, keys: u16)
-    requires { ⌜ (length (now lot) ≡ SIZE) × (accountFits number fragments keys ≡ true) ⌝ }
-    ensures { λ _. ⌜ viewLot (now (lot .exit)) ≡ holds (fresh number fragments keys) ⌝ }
-{
-    set_head(lot, Account::fresh(number, fragments, keys));
-    set_fresh_streams(lot);
-    unset_records(lot);
 }

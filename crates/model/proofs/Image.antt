@@ -32,7 +32,7 @@ same-true [] (y ∷ ys) e = cc
 same-true (x ∷ xs) [] e = cc
 same-true (x ∷ xs) (y ∷ ys) e = let p = eqb-true x y (and-l _ _ e) in let q = same-true xs ys (and-r (eqb x y) _ e) in cc
 
-pub same-refl : (xs : List ℕ) → same xs xs ≡ true
+same-refl : (xs : List ℕ) → same xs xs ≡ true
 unfolding same
 same-refl [] = refl
 same-refl (x ∷ xs) = rw (eq-eqb x x refl, same-refl xs)

@@ -1,6 +1,5 @@
 -- `fits` answers the well-formedness test. Assumes nothing.
-use mathlib.Core.Path.{_≡_, sym, _∙_}
-use mathlib.Core.Bool.{_&&_}
+use mathlib.Core.Path.{sym, _∙_}
 use native.Mathlib.Omega.{arith}
 use borrow.Author.Tests.{not-true, not-false}
 use Rattle.lot.proofs.Looks.{head-unfit, limits, rest-fits}

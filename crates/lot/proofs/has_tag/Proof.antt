@@ -1,5 +1,4 @@
 -- `has_tag` compares the four bytes of a tag. Assumes nothing.
-use mathlib.Core.Path.{_≡_}
 use Rattle.lot.proofs.Heads.{same-tag}
 use borrow.Author.Needs.{needs}
 use Rattle.lot.proofs.has_tag.Statement.{statement}

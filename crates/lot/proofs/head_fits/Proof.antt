@@ -1,5 +1,4 @@
 -- `head_fits` tests what the definition lists. Assumes nothing.
-use mathlib.Core.Path.{_≡_}
 use Rattle.lot.proofs.Heads.{head-test}
 use borrow.Author.Needs.{needs}
 use Rattle.lot.proofs.head_fits.Statement.{statement}

@@ -1,9 +1,9 @@
 -- `look_at` answers what the lot means. Assumes nothing.
-use mathlib.Core.Path.{_≡_, refl, sym, ap, _∙_}
+use mathlib.Core.Path.{refl, sym, ap, _∙_}
 use native.Mathlib.Omega.{arith}
 use lib.ListN.{length}
 use borrow.Author.Tests.{not-true, not-false}
-use Rattle.lot.proofs.Parts.{length-head, length-streams, length-places}
+use Rattle.lot.proofs.Lengths.{length-head, length-streams, length-places}
 use Rattle.lot.proofs.Looks.{looks-free, looks-strange, looks-unfit, looks-held}
 use borrow.Author.Needs.{needs}
 use Rattle.lot.proofs.look_at.Statement.{statement}

@@ -1,5 +1,5 @@
 -- `put_record` leaves the records with that value. Assumes nothing.
-use mathlib.Core.Path.{_≡_, _∙_}
+use mathlib.Core.Path.{_∙_}
 use native.Mathlib.Omega.{arith}
 use lib.ListN.{length-set}
 use Rattle.lot.specs.Writing.{withRecord}

@@ -1,5 +1,5 @@
 -- `records_of` answers the last section. Assumes nothing.
-use Rattle.lot.proofs.Parts.{records-part}
+use Rattle.lot.proofs.Lengths.{records-part}
 use borrow.Author.Needs.{needs}
 use Rattle.lot.proofs.records_of.Statement.{statement}
 use Rattle.lot.proofs.records_of.Tie as tie

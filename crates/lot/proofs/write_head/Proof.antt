@@ -1,5 +1,4 @@
 -- `write_head` leaves the bytes of a head. Assumes nothing.
-use mathlib.Core.Path.{_≡_, refl}
 use native.Mathlib.Omega.{arith}
 use Rattle.lot.proofs.Heads.{head-written}
 use borrow.Author.Needs.{needs}
