@@ -8,7 +8,7 @@ ghost use Rattle.model.specs.Image.{record8, each, LONGEST-IMAGE};
 ghost use Rattle.lot.specs.Layout.{SIZE};
 ghost use Rattle.lot.specs.Look.{lookOf};
 ghost use Rattle.lot.specs.declared.Look.the-variants.{Holds};
-ghost use Rattle.image.specs.Saving.{Written, presentIn, fragmentBytes, recordBytes, bodyBytes, LotSaved};
+ghost use Rattle.image.specs.Saving.{Written, presentIn, fragmentBytes, recordBytes, SectionsSaved, BodySaved, trailerBehind, LotSaved};
 use lot::Account;
 use model::Found;
 use trailer::Trailer;
@@ -19,8 +19,9 @@ fn save_bytes(from: &[u8], image: &mut [u8], at: usize) -> usize
     requires { ⌜ at + length (now from) ≤ length (now image) ⌝ }
     ensures { λ r. ⌜ Written (now (image .entry)) (now (image .exit)) at r (now (from .entry)) ⌝ }
 {
-    bytes::copy(from, &mut image[at..]);
-    at + from.len()
+    let end = at + from.len();
+    bytes::copy(from, &mut image[at..end]);
+    end
 }
 
 fn write_record(bytes: &mut [u8], fragment: u8, key: u16, value: u32)
@@ -43,7 +44,10 @@ fn save_record(records: &[u8], i: usize, k: usize, image: &mut [u8], at: usize) 
             write_record(&mut image[at..end], i as u8, k as u16, value);
             return end;
         }
-        _ => {
+        Found::Absent => {
+            return at;
+        }
+        Found::NotRead(_) => {
             return at;
         }
     }
@@ -77,14 +81,61 @@ fn save_records(records: &[u8], keys: usize, fragments: usize, image: &mut [u8],
     end
 }
 
+// Streams, present records and places, one after the other.
+fn save_sections(
+    streams: &[u8],
+    records: &[u8],
+    places: &[u8],
+    keys: usize,
+    fragments: usize,
+    image: &mut [u8],
+) -> usize
+    requires { ⌜ (length (now streams) ≤ 64) × (length (now records) ≡ 5120) × (length (now places) ≤ 5120) × (keys ≤ 128) × (fragments ≤ 8) × (13376 ≤ length (now image)) ⌝ }
+    ensures { λ r. ⌜ SectionsSaved (now (image .entry)) (now (image .exit)) r (now (streams .entry)) (recordBytes (now (records .entry)) keys fragments) (now (places .entry)) ⌝ }
+{
+    let a = save_bytes(streams, image, 0);
+    let b = save_records(records, keys, fragments, image, a);
+    save_bytes(places, image, b)
+}
+
 // All but the trailer.
 fn save_body(lot: &[u8], account: Account, image: &mut [u8]) -> usize
     requires { ⌜ (length (now lot) ≡ SIZE) × (account .fragments ≤ 8) × (account .keys ≤ 128) × (account .held ≤ 256) × (LONGEST-IMAGE ≤ length (now image)) ⌝ }
-    ensures { λ r. ⌜ Written (now (image .entry)) (now (image .exit)) 0 r (bodyBytes (now (lot .entry)) account) ⌝ }
+    ensures { λ r. ⌜ BodySaved (now (lot .entry)) account (now (image .entry)) (now (image .exit)) r ⌝ }
 {
-    let streams = (account.fragments as usize) * 8;
-    let places = (account.held as usize) * 20;
-    let a = save_bytes(&lot::streams_of(lot)[0..streams], image, 0);
-    let b = save_records(lot::records_of(lot), account.keys as usize, account.fragments as usize, image, a);
-    save_bytes(&lot::places_of(lot)[0..places], image, b)
+    let streams = lot::streams_of(lot);
+    let records = lot::records_of(lot);
+    let places = lot::places_of(lot);
+    let a = (account.fragments as usize) * 8;
+    let b = (account.held as usize) * 20;
+    save_sections(&streams[0..a], records, &places[0..b], account.keys as usize, account.fragments as usize, image)
+}
+
+// The numbers of the trailer that stands from index `end` on.
+fn trailer_behind(account: Account, end: usize) -> Trailer
+    requires { ⌜ (account .fragments * 8 + account .held * 20 ≤ end) × (end ≤ 13376) ⌝ }
+    ensures { λ r. ⌜ r ≡ trailerBehind account end ⌝ }
+{
+    let rest = (account.fragments as usize) * 8 + (account.held as usize) * 20;
+    Trailer {
+        number: account.number,
+        fragments: account.fragments,
+        keys: account.keys,
+        records: ((end - rest) / 8) as u16,
+        held: account.held,
+        closed: account.closed,
+        length: (end + Trailer::LENGTH) as u32,
+    }
+}
+
+// Saves the account that a lot holds; `account` is what a look at the lot found. It answers the image's length.
+pub fn save_lot(lot: &[u8], account: Account, image: &mut [u8]) -> u32
+    requires { ⌜ (length (now lot) ≡ SIZE) × (lookOf (now lot) ≡ Holds account) × (LONGEST-IMAGE ≤ length (now image)) ⌝ }
+    ensures { λ r. ⌜ LotSaved (now (lot .entry)) (now (image .entry)) (now (image .exit)) r ⌝ }
+{
+    let end = save_body(lot, account, image);
+    let t = trailer_behind(account, end);
+    let whole = end + Trailer::LENGTH;
+    trailer::write_trailer(&mut image[end..whole], t);
+    t.length
 }

@@ -30,7 +30,7 @@ bytes-drop n l b = λ j. rw (getD-drop n l j 0) (b (n + j))
 -- ---- any parts
 
 module _ {X : Type 0} (size : ℕ) (enc : X → List ℕ) where
-  each-append : (xs ys : List X) → each enc (xs ++ ys) ≡ each enc xs ++ each enc ys
+  pub each-append : (xs ys : List X) → each enc (xs ++ ys) ≡ each enc xs ++ each enc ys
   unfolding each
   each-append [] ys = refl
   each-append (x ∷ xs) ys = rw (each-append xs ys) (sym (append-assoc (enc x) (each enc xs) (each enc ys)))

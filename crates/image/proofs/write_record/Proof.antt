@@ -1,3 +1,6 @@
+use mathlib.Core.Path.{_≡_}
+use native.Mathlib.Omega.{arith}
+use Rattle.image.proofs.Writing.{record-written}
 use borrow.Author.Needs.{needs}
 use Rattle.image.proofs.write_record.Statement.{statement}
 use Rattle.image.proofs.write_record.Tie as tie
@@ -24,7 +27,9 @@ same-length c = search needs
 
 -- src/lib.rt:124:1
 returns : tie.Need-returns
-returns c = ?
+returns c =
+    let a = c .before .before .before .before .before .before .before .before .before .before .before .before .before .args in
+    cc (record-written (a .bytes .now) (record { fragment = a .fragment; key = a .key; value = a .value }) (omega arith) (omega arith))
 
 pub write-record-spec : {M : Type 1} → statement M
 write-record-spec =
