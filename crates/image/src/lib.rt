@@ -5,10 +5,15 @@ ghost use mathlib.Core.List.{_∷_};
 ghost use Prim.Native.Nat.{_+_, _*_, _≤_, _<_};
 ghost use lib.ListN.{length};
 ghost use Rattle.model.specs.Image.{record8, each, LONGEST-IMAGE};
-ghost use Rattle.lot.specs.Layout.{SIZE};
+ghost use Rattle.model.specs.Decoding.{presentOf, parse};
+ghost use Rattle.lot.specs.Layout.{SIZE, recordsOf};
 ghost use Rattle.lot.specs.Look.{lookOf};
 ghost use Rattle.lot.specs.declared.Look.the-variants.{Holds};
+ghost use Rattle.writes.specs.Sections.{WithRecords};
+ghost use Rattle.judging.specs.Judging.{judgedOf, presentAt};
+ghost use Rattle.judging.specs.declared.Judged.the-variants.{Accepted};
 ghost use Rattle.image.specs.Saving.{Written, presentIn, fragmentBytes, recordBytes, SectionsSaved, BodySaved, trailerBehind, LotSaved};
+ghost use Rattle.image.specs.Loading.{SmallRecord, SmallRecords, withPresent, withAll, HeldLoaded, Loadable, ImageLoaded, LotLoaded};
 use lot::Account;
 use model::Found;
 use trailer::Trailer;
@@ -138,4 +143,67 @@ pub fn save_lot(lot: &[u8], account: Account, image: &mut [u8]) -> u32
     let whole = end + Trailer::LENGTH;
     trailer::write_trailer(&mut image[end..whole], t);
     t.length
+}
+
+// ---- loading
+
+// Puts record j of an image.
+fn load_record(lot: &mut [u8], records: &[u8], j: usize)
+    requires { ⌜ (length (now lot) ≡ SIZE) × (j * 8 + 8 ≤ length (now records)) × SmallRecord (presentAt (now records) j) ⌝ }
+    ensures { λ _. ⌜ WithRecords (now (lot .entry)) (now (lot .exit)) (withPresent (recordsOf (now (lot .entry))) (presentAt (now (records .entry)) j)) ⌝ }
+{
+    let fragment = records[j * 8] as usize;
+    let key = wire::get16(records, j * 8 + 2) as usize;
+    let value = wire::get32(records, j * 8 + 4);
+    writes::set_record(lot, fragment, key, value);
+}
+
+// Puts the first n records of an image, the last one first.
+fn load_records(lot: &mut [u8], records: &[u8], n: usize)
+    requires { ⌜ (length (now lot) ≡ SIZE) × (n * 8 ≤ length (now records)) × SmallRecords (now records) n ⌝ }
+    ensures { λ _. ⌜ WithRecords (now (lot .entry)) (now (lot .exit)) (withAll (recordsOf (now (lot .entry))) (parse n 8 presentOf (now (records .entry)))) ⌝ }
+{
+    let mut j = n;
+    while 0 < j {
+        j -= 1;
+        load_record(lot, records, j);
+    }
+}
+
+// The head, the streams and the places.
+fn load_held(lot: &mut [u8], streams: &[u8], places: &[u8], t: Trailer)
+    requires { ⌜ (length (now lot) ≡ SIZE) × (length (now streams) ≤ 64) × (length (now places) ≤ 5120) ⌝ }
+    ensures { λ _. ⌜ HeldLoaded (now (lot .entry)) (now (lot .exit)) t (now (streams .entry)) (now (places .entry)) ⌝ }
+{
+    let account = Account {
+        number: t.number,
+        fragments: t.fragments,
+        keys: t.keys,
+        held: t.held,
+        closed: t.closed,
+    };
+    writes::set_head(lot, account);
+    writes::set_streams(lot, streams);
+    writes::set_places(lot, places);
+}
+
+fn load_image(lot: &mut [u8], image: &[u8], t: Trailer)
+    requires { ⌜ (length (now lot) ≡ SIZE) × Loadable t (now image) ⌝ }
+    ensures { λ _. ⌜ ImageLoaded (now (lot .entry)) (now (lot .exit)) t (now (image .entry)) ⌝ }
+{
+    let a = (t.fragments as usize) * 8;
+    let b = a + (t.records as usize) * 8;
+    let c = b + (t.held as usize) * 20;
+    load_held(lot, &image[0..a], &image[b..c], t);
+    writes::unset_records(lot);
+    load_records(lot, &image[a..], t.records as usize);
+}
+
+// Loads the account of accepted data into a lot, whatever stood there; t is what judging the data found.
+pub fn load_lot(lot: &mut [u8], data: &[u8], t: Trailer)
+    requires { ⌜ (length (now lot) ≡ SIZE) × (judgedOf (now «data») ≡ Accepted t) ⌝ }
+    ensures { λ _. ⌜ LotLoaded (now («data» .entry)) (now (lot .exit)) ⌝ }
+{
+    let start = data.len() - (t.length as usize);
+    load_image(lot, &data[start..], t);
 }

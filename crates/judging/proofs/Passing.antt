@@ -70,15 +70,15 @@ module _ (l : List ℕ) (bl : Bytes l) (p : Passes l) where
   abbrev b : List ℕ
   b = lastImage l
 
-  agrees : t .length ≡ imageLength (t .fragments) (t .records) (t .held)
+  pub agrees : t .length ≡ imageLength (t .fragments) (t .records) (t .held)
   unfolding trailerFits
   agrees = eqb-true _ _ (nth _ (p .trailer) 4)
 
-  within : t .length ≤ length l
+  pub within : t .length ≤ length l
   unfolding trailerFits
   within = leb-true _ _ (nth _ (p .trailer) 5)
 
-  long-image : length b ≡ t .length
+  pub long-image : length b ≡ t .length
   unfolding lastOf
   long-image = omega (arith, length-drop (length l - t .length) l, within)
 
@@ -93,7 +93,7 @@ module _ (l : List ℕ) (bl : Bytes l) (p : Passes l) where
   unfolding decode decodeWith numbersOf
   decoded = refl
 
-  form-passes : formFits (shownBy t b) ≡ true
+  pub form-passes : formFits (shownBy t b) ≡ true
   unfolding trailerFits
   form-passes = sections-form t b (p .sections) (nth _ (p .trailer) 2) (nth _ (p .trailer) 3)
 
@@ -101,7 +101,7 @@ module _ (l : List ℕ) (bl : Bytes l) (p : Passes l) where
   unfolding lastOf
   bytes-are = sections-bytes t b (bytes-drop (length l - t .length) l bl) agrees long-image ends-with (sections-plain t b (p .sections))
 
-  loaded : load l ≡ some (account (shownBy t b))
+  pub loaded : load l ≡ some (account (shownBy t b))
   unfolding image lastOf
   loaded =
       let x = shownBy t b in
@@ -232,3 +232,16 @@ module _ (l : List ℕ) where
     pub all-pass : Bytes l → 24 ≤ length l → signed lastPart ≡ true → trailerFits (length l) lastPart ≡ true → sectionsFit t (partFrom l (length l - t .length)) ≡ true → judged.Accepted t ≡ judgedOf l
     all-pass b h s w v =
         rw are (passed l b (record { long = h; is-signed = rw (last-part 24) at s; trailer = rw (last-part 24) at w; sections = rw (last-part (t .length), are) at v }))
+
+-- ---- what accepted data are
+
+pub accepted-passes : (l : List ℕ) (t : Trailer) → judgedOf l ≡ judged.Accepted t → Passes l
+unfolding judgedOf
+accepted-passes l t e = go (load l) refl e
+  where
+    go : (o : Option Account) → load l ≡ o → judgedAs o ≡ judged.Accepted t → Passes l
+    go none q e = no-way cc
+    go (some a) q e = must-pass l a q
+
+pub accepted-numbers : (l : List ℕ) (t : Trailer) → Bytes l → judgedOf l ≡ judged.Accepted t → t ≡ lastNumbers l
+accepted-numbers l t b e = let p = passed l b (accepted-passes l t e) in cc

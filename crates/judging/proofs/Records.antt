@@ -8,11 +8,11 @@ use lib.Dec.{leb, ltb, eqb}
 use lib.ListN.{length, getD, drop}
 use lib.Seq.{getD-drop}
 use borrow.Author.Tests.{le-leb}
-use Rattle.wire.specs.Numbers.{number16}
+use Rattle.wire.specs.Numbers.{number16, number32}
 use Rattle.model.specs.Lists.{every}
 use Rattle.model.specs.Image.{Present}
 use Rattle.model.specs.Decoding.{presentOf, parse, place, recordsFit}
-use Rattle.lookback.proofs.Places.{parse-more, number16-drop}
+use Rattle.lookback.proofs.Places.{parse-more, number16-drop, number32-drop}
 use Rattle.lot.specs.View.{allBelow}
 use Rattle.judging.specs.Judging.{presentAt, inOrder, plainRecord, recordFits}
 
@@ -22,13 +22,17 @@ order-at s zero h = absurd (omega arith)
 order-at s (suc i) h = let z : suc i - 1 ≡ i = omega arith in rw z
 
 module _ (s : List ℕ) (i : ℕ) where
-  fragment-at : presentAt s i .fragment ≡ getD s (i * 8) 0
+  pub fragment-at : presentAt s i .fragment ≡ getD s (i * 8) 0
   unfolding presentOf
   fragment-at = let z : i * 8 + 0 ≡ i * 8 = omega arith in getD-drop (i * 8) s 0 0 ∙ rw z
 
-  key-at : presentAt s i .key ≡ number16 s (i * 8 + 2)
+  pub key-at : presentAt s i .key ≡ number16 s (i * 8 + 2)
   unfolding presentOf
   key-at = number16-drop (i * 8) s 2
+
+  pub value-at : presentAt s i .value ≡ number32 s (i * 8 + 4)
+  unfolding presentOf
+  value-at = number32-drop (i * 8) s 4
 
   pub place-at : (k : ℕ) → k ≡ number16 s (i * 8 + 2) → 128 * getD s (i * 8) 0 + k ≡ place (presentAt s i)
   place-at k e = rw (e, fragment-at, key-at)

@@ -45,7 +45,7 @@ module _ (x : Form) (w : formFits x ≡ true) where
   unfolding formFits
   records-fit = nth _ w 3
 
-  held-fit : heldFits (x .keys) (x .closed) (x .streams) [] (x .held) ≡ true
+  pub held-fit : heldFits (x .keys) (x .closed) (x .streams) [] (x .held) ≡ true
   unfolding formFits
   held-fit = nth _ w 4
 
