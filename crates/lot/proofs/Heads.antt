@@ -16,11 +16,11 @@ use Rattle.lot.specs.Head.{numbersOf, headBytes}
 use Rattle.lot.specs.declared.Account.{Account}
 
 -- a list of n elements, spelled out
-spelled : ℕ → List ℕ → List ℕ
+unfoldable pub spelled : ℕ → List ℕ → List ℕ
 spelled zero l = []
 spelled (suc n) l = getD l 0 0 ∷ spelled n (drop 1 l)
 
-spell : (n : ℕ) (l : List ℕ) → length l ≡ n → l ≡ spelled n l
+pub spell : (n : ℕ) (l : List ℕ) → length l ≡ n → l ≡ spelled n l
 unfolding spelled
 spell zero [] e = refl
 spell zero (x ∷ l) e = absurd (omega arith)

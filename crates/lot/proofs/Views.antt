@@ -41,7 +41,7 @@ shown-count p n a w =
     omega (arith, sum-same (λ i. length (a .at i .held)) (λ i. length (own i)) f each, rw z at (length-upward f 0 own))
 
 module _ (p : ℕ → Bool) where
-  below-in : (n : ℕ) → allBelow p n ≡ true → (i : ℕ) → i < n → p i ≡ true
+  pub below-in : (n : ℕ) → allBelow p n ≡ true → (i : ℕ) → i < n → p i ≡ true
   unfolding allBelow
   below-in zero w i h = absurd (omega arith)
   below-in (suc n) w i h = go (decLt i n) (below-in n (and-l (allBelow p n) _ w) i)
@@ -50,19 +50,19 @@ module _ (p : ℕ → Bool) where
       go (yes l) below = below l
       go (no l) below = let e : i ≡ n = omega arith in rw e (and-r (allBelow p n) _ w)
 
-  below-of : (n : ℕ) → ((i : ℕ) → i < n → p i ≡ true) → allBelow p n ≡ true
+  pub below-of : (n : ℕ) → ((i : ℕ) → i < n → p i ≡ true) → allBelow p n ≡ true
   unfolding allBelow
   below-of zero w = refl
   below-of (suc n) w = and (below-of n (λ i h. w i (omega arith))) (w n (omega arith))
 
 module _ (s : List ℕ) (f : ℕ) where
-  streams-are : (i : ℕ) → i < f → countersAt (parse f 8 countersOf s) i ≡ countersOf (drop (i * 8) s)
+  pub streams-are : (i : ℕ) → i < f → countersAt (parse f 8 countersOf s) i ≡ countersOf (drop (i * 8) s)
   streams-are = getD-parse 8 countersOf freshCounters f s
 
-  streams-many : length (parse f 8 countersOf s) ≡ f
+  pub streams-many : length (parse f 8 countersOf s) ≡ f
   streams-many = length-parse 8 countersOf f s
 
-epoch-at : (s : List ℕ) (i : ℕ) → countersOf (drop (i * 8) s) .epoch ≡ number32 s (i * 8 + 4)
+pub epoch-at : (s : List ℕ) (i : ℕ) → countersOf (drop (i * 8) s) .epoch ≡ number32 s (i * 8 + 4)
 unfolding countersOf
 epoch-at s i = number32-drop (i * 8) s 4
 

@@ -203,7 +203,7 @@ fn stream_fits(streams: &[u8], i: usize, closed: u32) -> bool
 }
 
 // The first n streams.
-fn streams_fit(streams: &[u8], n: usize, closed: u32) -> bool
+pub fn streams_fit(streams: &[u8], n: usize, closed: u32) -> bool
     requires { ⌜ n * 8 ≤ length (now streams) ⌝ }
     ensures { λ r. ⌜ r ≡ allBelow (streamFits closed (now (streams .entry))) n ⌝ }
 {

@@ -163,7 +163,7 @@ module _ (x : Form) (t : List ℕ) where
 -- ---- at the end of any data
 
 module _ (front : List ℕ) (x : Form) where
-  trailer-last : lastOf 24 (front ++ bytes x) ≡ trailer24 x (length (body x) + 24)
+  pub trailer-last : lastOf 24 (front ++ bytes x) ≡ trailer24 x (length (body x) + 24)
   unfolding bytes
   trailer-last = let t = trailer24 x (length (body x) + 24) in rw (← append-assoc front (body x) t) (last-of (front ++ body x) t 24 (trailer-long x (length (body x) + 24)))
 

@@ -48,7 +48,7 @@ module _ (r : List ℕ) (i : ℕ) where
       go (yes m) = z n m
       go (no m) = List·getD-eq-default r 0 {n = n} (omega arith)
 
-no-record : (r : List ℕ) → Zeros r → (i k : ℕ) → recordAt r i k ≡ absent
+pub no-record : (r : List ℕ) → Zeros r → (i k : ℕ) → recordAt r i k ≡ absent
 unfolding Zeros recordAt
 no-record r z i k = rw (z ((i * 128 + k) * 5))
 

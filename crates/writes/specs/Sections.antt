@@ -1,7 +1,8 @@
 -- The four sections of a lot.
 use Prim.Native.Nat.{ℕ}
 use mathlib.Core.Path.{_≡_}
-use mathlib.Core.List.{List}
+use mathlib.Core.List.{List, _++_}
+use lib.ListN.{length, drop}
 use Rattle.lot.specs.Layout.{headOf, streamsOf, placesOf, recordsOf}
 
 -- the lot l has the head h, the streams s, the places p and the records r
@@ -24,3 +25,7 @@ module _ (l m : List ℕ) where
 
   abbrev pub WithRecords : List ℕ → Type 0
   WithRecords r = Sections m (headOf l) (streamsOf l) (placesOf l) r
+
+-- a section whose first bytes are x
+abbrev pub overwritten : List ℕ → List ℕ → List ℕ
+overwritten x s = x ++ drop (length x) s

@@ -3,14 +3,14 @@
 ghost use mathlib.Core.Path.{_≡_};
 ghost use mathlib.Core.Bool.{true};
 ghost use mathlib.Core.List.{_++_};
-ghost use Prim.Native.Nat.{_<_};
+ghost use Prim.Native.Nat.{_<_, _≤_};
 ghost use lib.ListN.{length, drop};
 ghost use Rattle.model.specs.Account.{accountFits, fresh};
-ghost use Rattle.lot.specs.Layout.{SIZE, FREE, streamsOf, recordsOf};
+ghost use Rattle.lot.specs.Layout.{SIZE, FREE, streamsOf, placesOf, recordsOf};
 ghost use Rattle.lot.specs.View.{viewLot, holds};
 ghost use Rattle.lot.specs.Head.{headBytes};
 ghost use Rattle.lot.specs.Writing.{withCounters, withRecord, withoutRecord};
-ghost use Rattle.writes.specs.Sections.{WithHead, WithStreams, WithRecords};
+ghost use Rattle.writes.specs.Sections.{WithHead, WithStreams, WithPlaces, WithRecords, overwritten};
 ghost use Rattle.writes.specs.Fresh.{freshStreams, Zeros};
 use lot::Account;
 use model::Counters;
@@ -45,6 +45,21 @@ pub fn unset_record(lot: &mut [u8], i: usize, k: usize)
     lot::delete_record(&mut lot[lot::RECORDS..lot::SIZE], i, k);
 }
 
+// The first bytes of the streams, and of the places.
+pub fn set_streams(lot: &mut [u8], from: &[u8])
+    requires { ⌜ (length (now lot) ≡ SIZE) × (length (now from) ≤ 64) ⌝ }
+    ensures { λ _. ⌜ WithStreams (now (lot .entry)) (now (lot .exit)) (overwritten (now (from .entry)) (streamsOf (now (lot .entry)))) ⌝ }
+{
+    bytes::copy(from, &mut lot[lot::STREAMS..lot::PLACES]);
+}
+
+pub fn set_places(lot: &mut [u8], from: &[u8])
+    requires { ⌜ (length (now lot) ≡ SIZE) × (length (now from) ≤ 5120) ⌝ }
+    ensures { λ _. ⌜ WithPlaces (now (lot .entry)) (now (lot .exit)) (overwritten (now (from .entry)) (placesOf (now (lot .entry)))) ⌝ }
+{
+    bytes::copy(from, &mut lot[lot::PLACES..lot::RECORDS]);
+}
+
 // ---- a whole lot
 
 // Makes all eight streams fresh.
@@ -77,7 +92,8 @@ fn set_fresh_streams(lot: &mut [u8])
     fresh_streams(&mut lot[lot::STREAMS..lot::PLACES]);
 }
 
-fn unset_records(lot: &mut [u8])
+// Makes every record of a lot absent.
+pub fn unset_records(lot: &mut [u8])
     requires { ⌜ length (now lot) ≡ SIZE ⌝ }
     ensures { λ _. ⌜ WithRecords (now (lot .entry)) (now (lot .exit)) (recordsOf (now (lot .exit))) × Zeros (recordsOf (now (lot .exit))) ⌝ }
 {

@@ -1,0 +1,4 @@
+pub mod Writing
+pub mod Saved
+pub mod Putting
+pub mod Loaded

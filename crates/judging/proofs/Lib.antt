@@ -1,0 +1,5 @@
+pub mod Parts
+pub mod Records
+pub mod Trailers
+pub mod Sections
+pub mod Passing
