@@ -2,7 +2,7 @@
 //!
 //!     compare short          for the gate: seconds
 //!     compare long [N]       N rounds (default 300); the short run has 6
-//!     compare seed KIND N    one sequence again: KIND is mixed, interleaved, images or damage
+//!     compare seed KIND N    one sequence again: KIND is edges, mixed, interleaved, images or damage
 //!
 //! It ends with exit status 1 at the first difference, and names its seed and step.
 
@@ -15,7 +15,7 @@ mod random;
 mod rules;
 mod trips;
 
-use pair::{CALLS, GIVEN, PIECES, SEED, STEP};
+use pair::{CALLS, GIVEN, KIND, KINDS, PIECES, SEED, STEP};
 use std::sync::atomic::Ordering::Relaxed;
 use std::time::Instant;
 
@@ -27,7 +27,7 @@ extern "C" {
 
 /// A call that crashes is a difference too.
 extern "C" fn crashed(number: i32) {
-    let mut text = *b"a call crashed (signal   ) at seed                     step                     \n";
+    let mut text = *b"a call crashed (signal   ), seed                     step                    \n";
     let digits = |text: &mut [u8], mut n: u64| {
         for place in text.iter_mut().rev() {
             *place = b'0' + (n % 10) as u8;
@@ -35,29 +35,42 @@ extern "C" fn crashed(number: i32) {
         }
     };
     digits(&mut text[23..25], number as u64);
-    digits(&mut text[35..54], SEED.load(Relaxed));
-    digits(&mut text[61..80], STEP.load(Relaxed));
+    digits(&mut text[33..52], SEED.load(Relaxed));
+    digits(&mut text[58..77], STEP.load(Relaxed));
+    let kind = KINDS[KIND.load(Relaxed) as usize];
     unsafe {
+        write(2, kind.as_ptr(), kind.len());
+        write(2, b": ".as_ptr(), 2);
         write(2, text.as_ptr(), text.len());
         _exit(1)
     }
 }
 
-fn seeded(seed: u64, trip: impl FnOnce()) {
+/// One sequence of calls; whether it could be brought to its end.
+fn sequence(kind: &str, seed: u64) -> bool {
+    let kind = KINDS.iter().position(|k| *k == kind).expect("a kind of sequence");
+    KIND.store(kind as u64, Relaxed);
     SEED.store(seed, Relaxed);
     STEP.store(0, Relaxed);
-    trip();
+    match kind {
+        0 => edges::all(),
+        1 => trips::mixed(seed, 1_200),
+        2 => return trips::interleaved(seed),
+        3 => trips::images(seed, 7),
+        _ => trips::damage(seed, 3),
+    }
+    true
 }
 
 /// The random part of a run: so many sequences of each kind.
 fn round(first: u64, stuck: &mut u64) {
     for seed in first..first + 60 {
-        seeded(seed, || trips::mixed(seed, 1_200));
-        seeded(seed, || *stuck += u64::from(!trips::interleaved(seed)));
+        sequence("mixed", seed);
+        *stuck += u64::from(!sequence("interleaved", seed));
     }
     for seed in first..first + 6 {
-        seeded(seed, || trips::images(seed, 7));
-        seeded(seed, || trips::damage(seed, 3));
+        sequence("images", seed);
+        sequence("damage", seed);
     }
 }
 
@@ -104,14 +117,14 @@ fn main() {
     let mut stuck = 0;
     match words[..] {
         ["short"] => {
-            seeded(0, edges::all);
+            sequence("edges", 0);
             for i in 0..6 {
                 round(1 + i * 1_000, &mut stuck);
             }
         }
         ["long"] | ["long", _] => {
             let rounds = words.get(1).map_or(300, |n| n.parse().expect("a number of rounds"));
-            seeded(0, edges::all);
+            sequence("edges", 0);
             for i in 0..rounds {
                 round(1 + i * 1_000, &mut stuck);
                 if i % 10 == 9 {
@@ -120,19 +133,12 @@ fn main() {
             }
         }
         ["seed", kind, n] => {
-            let n: u64 = n.parse().expect("a seed");
-            seeded(n, || match kind {
-                "mixed" => trips::mixed(n, 1_200),
-                "interleaved" => drop(trips::interleaved(n)),
-                "images" => trips::images(n, 7),
-                "damage" => trips::damage(n, 3),
-                _ => edges::all(),
-            });
+            sequence(kind, n.parse().expect("a seed"));
             println!("no difference");
             return;
         }
         _ => {
-            eprintln!("usage: compare short | long [ROUNDS] | seed mixed|interleaved|images|damage|edges N");
+            eprintln!("usage: compare short | long [ROUNDS] | seed edges|mixed|interleaved|images|damage N");
             std::process::exit(2);
         }
     }

@@ -7,6 +7,9 @@ use crate::random::Random;
 use crate::rules::Account;
 use std::sync::atomic::{AtomicU64, Ordering};
 
+/// The sequence of calls that is being made: its kind (an index into KINDS), its seed, and how many calls it has made.
+pub static KIND: AtomicU64 = AtomicU64::new(0);
+pub const KINDS: [&str; 5] = ["edges", "mixed", "interleaved", "images", "damage"];
 pub static SEED: AtomicU64 = AtomicU64::new(0);
 pub static STEP: AtomicU64 = AtomicU64::new(0);
 
@@ -27,7 +30,10 @@ pub static GIVEN: [[AtomicU64; 18]; 9] = [const { [const { AtomicU64::new(0) }; 
 pub static PIECES: AtomicU64 = AtomicU64::new(0);
 
 pub fn differ(what: &str) -> ! {
-    eprintln!("difference at seed {} step {}: {}", SEED.load(Ordering::Relaxed), STEP.load(Ordering::Relaxed), what);
+    let now = |n: &AtomicU64| n.load(Ordering::Relaxed);
+    let (kind, seed) = (KINDS[now(&KIND) as usize], now(&SEED));
+    eprintln!("difference: {kind} seed {seed} step {}: {what}", now(&STEP));
+    eprintln!("again: tests/run seed {kind} {seed}");
     std::process::exit(1);
 }
 

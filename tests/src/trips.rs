@@ -37,6 +37,15 @@ pub fn mixed(seed: u64, steps: usize) {
                 if rng.one_in(3) && !images.is_empty() {
                     let data = images[rng.below(images.len() as u64) as usize].clone();
                     pair.load(frame, &data);
+                } else if rng.one_in(4) {
+                    // one that has gone a long way
+                    let entries = rng.pick(&[0, 40, 150]);
+                    let mut a = rich(rng.next(), entries);
+                    a.number = 1 + rng.below(12) as u16;
+                    for s in &mut a.streams {
+                        s.next = rng.pick(&[0, 32_767, 65_400, 65_530, 65_535]);
+                    }
+                    pair.load(frame, &image::image(&a));
                 } else {
                     let keys = rng.pick(&[1, 2, 4, 128]);
                     pair.open(frame, 1 + rng.below(12) as u32, 1 + rng.below(8) as u32, keys);
@@ -290,16 +299,50 @@ pub fn mutated(rng: &mut Random, a: &Account) -> Vec<u8> {
             let cut = rng.below(bytes.len() as u64 + 1) as usize;
             bytes.drain(..cut);
         }
+        3 => {
+            // one record in the place of its neighbour, or both changed over
+            let records: usize = a.streams.iter().map(|s| s.records.len()).sum();
+            if records > 1 {
+                let at = a.streams.len() * 8 + rng.below(records as u64 - 1) as usize * 8;
+                let (one, other) = bytes[at..at + 16].split_at_mut(8);
+                match rng.below(3) {
+                    0 => other.copy_from_slice(one),
+                    1 => one.copy_from_slice(other),
+                    _ => one.swap_with_slice(other),
+                }
+            }
+        }
         _ => {}
     }
     bytes
+}
+
+/// The closed epoch goes up, and every open one stays above it, but nothing is settled.
+fn close_only(a: &mut Account, closed: u32) {
+    a.closed = closed;
+    for s in &mut a.streams {
+        s.epoch = s.epoch.max(closed.saturating_add(1));
+    }
 }
 
 fn change(rng: &mut Random, a: &mut Account) {
     let fragments = a.streams.len() as u64;
     let i = rng.below(fragments) as usize;
     let closed = a.closed;
-    match rng.below(12) {
+    match rng.below(15) {
+        12 | 13 => close_only(a, closed.saturating_add(1)),
+        14 => {
+            // a flag on a P whose writes are held, or that has been held for long
+            let prepared: Vec<usize> = (0..a.streams[i].held.len()).filter(|&x| a.streams[i].held[x].deed.kind() == 3).collect();
+            if !prepared.is_empty() {
+                let held = &mut a.streams[i].held[rng.pick(&prepared)];
+                if let Deed::Prepare { flagged, .. } = &mut held.deed {
+                    *flagged = true;
+                }
+                let epoch = held.epoch;
+                close_only(a, closed.max(epoch));
+            }
+        }
         0 => a.closed = a.closed.wrapping_add(rng.pick(&[1, u32::MAX, 2])),
         1 => a.streams[i].epoch = a.streams[i].epoch.wrapping_add(rng.pick(&[1, u32::MAX, 5])),
         2 => a.streams[i].next = rng.next() as u16,
@@ -352,7 +395,12 @@ pub fn interleaved(seed: u64) -> bool {
     let mut rng = Random::new(seed);
     let fragments = 1 + rng.below(8) as usize;
     let keys = rng.pick(&[1, 3, 16, 128]);
-    let start = Account::fresh(1 + rng.below(65_535) as u16, fragments, keys);
+    let mut start = Account::fresh(1 + rng.below(65_535) as u16, fragments, keys);
+    if rng.one_in(3) {
+        for s in &mut start.streams {
+            s.next = rng.pick(&[65_500, 65_535, 32_760]);
+        }
+    }
     let most = rng.pick(&[30, 30, 30, 120]);
     let count = 2 + rng.below(most) as usize;
     let from = rng.pick(&[1, 1, 65_530, 1 << 20, u32::MAX - 200]);
@@ -396,7 +444,11 @@ fn deliver_all(rng: &mut Random, lots: usize, start: &Account, log: &Log) -> Opt
         pair.open(frame, u32::from(start.number) % 60_000 + 1 + n as u32, 1 + rng.below(8) as u32, 8);
     }
     let number = u32::from(start.number);
-    let lot = pair.open(frame, number, start.streams.len() as u32, start.keys.into()).first;
+    let lot = if start.streams.iter().all(|s| s.next == 0) {
+        pair.open(frame, number, start.streams.len() as u32, start.keys.into()).first
+    } else {
+        pair.load(frame, &image::image(start)).first
+    };
     let mut at = vec![0; start.streams.len()];
     let mut lists = Vec::new();
     let patience = rng.pick(&[2, 10, 100]);
