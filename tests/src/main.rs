@@ -3,6 +3,8 @@
 //!     compare short          for the gate: seconds
 //!     compare long [N]       N rounds (default 300); the short run has 6
 //!     compare seed KIND N    one sequence again: KIND is edges, mixed, interleaved, images or damage
+//!     compare program FIRST LAST FOLDER
+//!                            inputs for the program of docs/RULES.md and what it must print: FOLDER/N.in, FOLDER/N.out
 //!
 //! It ends with exit status 1 at the first difference, and names its seed and step.
 
@@ -11,6 +13,7 @@ mod image;
 mod lent;
 mod logs;
 mod pair;
+mod program;
 mod random;
 mod rules;
 mod trips;
@@ -137,8 +140,17 @@ fn main() {
             println!("no difference");
             return;
         }
+        ["program", first, last, folder] => {
+            let number = |n: &str| n.parse::<u64>().expect("a seed");
+            for seed in number(first)..=number(last) {
+                let input = program::input(seed);
+                std::fs::write(format!("{folder}/{seed}.in"), &input).expect("written");
+                std::fs::write(format!("{folder}/{seed}.out"), program::prints(&input)).expect("written");
+            }
+            return;
+        }
         _ => {
-            eprintln!("usage: compare short | long [ROUNDS] | seed edges|mixed|interleaved|images|damage N");
+            eprintln!("usage: compare short | long [ROUNDS] | seed edges|mixed|interleaved|images|damage N | program FIRST LAST FOLDER");
             std::process::exit(2);
         }
     }
