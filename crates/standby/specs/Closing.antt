@@ -1,18 +1,15 @@
 -- What close owes: 1, 2, 3, 16, 12; the pieces, the list, and the account with the epoch closed.
 use Prim.Native.Nat.{ℕ, _*_}
 use mathlib.Core.Path.{_≡_}
-use mathlib.Core.List.{List, [], _∷_, _++_}
-use lib.Dec.{ltb}
+use mathlib.Core.List.{List, _++_}
 use lib.ListN.{length, drop}
-use Rattle.model.specs.Lists.{if_then_else_}
 use Rattle.model.specs.Account.{Account}
-use Rattle.model.specs.Closing.{judgeClose, close, Piece, listed}
-use Rattle.model.specs.declared.Refusal.the-variants.{TooShort}
-use Rattle.model.specs.declared.Outcome.{Outcome}
-use Rattle.model.specs.declared.Outcome.the-variants.{Done, Refused}
+use Rattle.model.specs.Closing.{close, listed}
 use Rattle.model.specs.declared.Closed.{Closed}
 use Rattle.model.specs.declared.Closed.the-variants.{Pieces, NotClosed}
 use Rattle.lot.specs.View.{holds}
+use Rattle.epoch.specs.Closed.{pairs}
+use Rattle.closing.specs.Closing.{closeOf}
 use Rattle.standby.specs.Memory.{viewOf, OnlyLot, Named, refused, found, named}
 
 abbrev pub closeFrom : Named → ℕ → Closed
