@@ -1,21 +1,19 @@
 -- An epoch that is to be closed: its sections may be closed, and then the lot holds the account with the epoch closed. Assumes nothing.
 use Prim.Native.Nat.{ℕ, suc, _+_, _*_, _<_, _≤_}
-use mathlib.Core.Path.{_≡_, refl, sym, ap, _∙_, fun-ext}
+use mathlib.Core.Path.{_≡_, refl, sym, _∙_, fun-ext}
 use mathlib.Core.List.{List, [], _∷_, _++_, map}
 use native.Mathlib.Omega.{arith}
 use native.Mathlib.Decide.{decLt}
-use lib.ListN.{length, getD, take, drop, drop-of-length-le}
-use lib.Seq.{take-length}
+use lib.ListN.{length, getD, take, drop}
 use borrow.Author.Tests.{leb-true, ne-eqb}
 use Rattle.model.specs.Lists.{upward}
 use Rattle.model.specs.Account.{Held, Account, accountFits, heldCount}
 use Rattle.model.specs.Image.{Item}
-use Rattle.model.specs.Closing.{close, settle, installed, listed, pieces, verdict, committed, upto, survivors, apply, Piece}
+use Rattle.model.specs.Closing.{close, settle, installed, listed, pieces, verdict, committed, upto, survivors, apply}
 use Rattle.model.specs.Decoding.{countersOf, parse, mine}
 use Rattle.model.specs.Section.{items}
 use Rattle.model.proofs.Tests.{nth}
 use Rattle.model.proofs.Buckets.{Rising}
-use Rattle.model.proofs.ByStream.{Sorted}
 use Rattle.model.proofs.Keeping.{closed-well-formed}
 use Rattle.lookback.proofs.Places.{length-parse}
 use Rattle.lot.specs.Layout.{SIZE, headOf, streamsOf, placesOf, recordsOf}
@@ -31,7 +29,7 @@ use Rattle.writes.proofs.Parts.{places-lent}
 use Rattle.writes.proofs.Changes.{sections-hold, streams-same}
 use Rattle.taking.specs.Delivering.{Looked}
 use Rattle.taking.proofs.Judging.{known}
-use Rattle.epoch.specs.Closed.{Closable, listedIn, pairs}
+use Rattle.epoch.specs.Closed.{Closable, listedIn}
 use Rattle.epoch.specs.Closed as sections
 use Rattle.closing.specs.Closing.{Due, PlacesClosed, closedNumbers, CloseDone}
 use Rattle.closing.proofs.Judging.{next-epoch}

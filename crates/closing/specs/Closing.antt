@@ -12,7 +12,7 @@ use Rattle.model.specs.declared.Outcome.the-variants.{Done, Refused}
 use Rattle.model.specs.declared.Closed.{Closed}
 use Rattle.model.specs.declared.Closed.the-variants.{Pieces, NotClosed}
 use Rattle.model.specs.declared.Refusal.the-variants.{Damaged, NotThisAccount, TooShort}
-use Rattle.lot.specs.Layout.{placesOf, recordsOf}
+use Rattle.lot.specs.Layout.{placesOf}
 use Rattle.lot.specs.View.{Lot, free, damaged, holds, viewLot}
 use Rattle.lot.specs.declared.Account as numbers
 use Rattle.writes.specs.Sections.{WithPlaces}

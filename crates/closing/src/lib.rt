@@ -1,9 +1,9 @@
 // Closing an epoch in one lot: one look at the lot, then the judgement, which only reads, then the close, section by section.
 // It stands on `lot` and `writes`, on `taking` for what a look at a lot tells, and on `epoch` for the close over sections.
 ghost use mathlib.Core.Path.{_≡_};
-ghost use Prim.Native.Nat.{_≤_, _<_};
+ghost use Prim.Native.Nat.{_<_};
 ghost use lib.ListN.{length};
-ghost use Rattle.lot.specs.Layout.{SIZE, placesOf, recordsOf};
+ghost use Rattle.lot.specs.Layout.{SIZE, placesOf};
 ghost use Rattle.writes.specs.Sections.{WithRecords};
 ghost use Rattle.taking.specs.Delivering.{Looked};
 ghost use Rattle.epoch.specs.Closed.{Closable};

@@ -11,13 +11,22 @@ records-of-requires : tie.Need-records-of-requires
 records-of-requires c κs = search needs
 
 snapshot-requires : tie.Need-snapshot-requires
-snapshot-requires c κs = let s = c .before .before .before .before in rw (c .records-of .ensures) (length-records (s .args .lot .now) (s .pre .looked .size))
+snapshot-requires c κs =
+    let s = c .before .before .before .before in
+    rw (c .records-of .ensures) (length-records (s .args .lot .now) (s .pre .looked .size))
 
 slice-aggregate-close-places : tie.Need-slice-aggregate-close-places
 slice-aggregate-close-places c = search needs
 
 close-places-requires : tie.Need-close-places-requires
-close-places-requires c κs = let s = c .before .before .before .before .before .before .before .before in (s .pre .looked .size, closable (s .args .lot .now) (s .pre .looked) (λ i. omega (arith, c .before .before .before .before .before .before .before .slice-known .given i .fits)) (c .before .before .before .snapshot .result) (s .args .list .now) (rw (c .before .before .before .snapshot .ensures, c .before .before .before .before .records-of .ensures) (length-records (s .args .lot .now) (s .pre .looked .size))) (s .pre .room))
+close-places-requires c κs =
+    let n = c .before .before .before in
+    let o = n .before in
+    let k = o .before .before .before in
+    let s = k .before in
+    let l = s .args .lot .now in
+    let z = s .pre .looked .size in
+    (z, closable l (s .pre .looked) (λ i. omega (arith, k .slice-known .given i .fits)) (n .snapshot .result) (s .args .list .now) (rw (n .snapshot .ensures, o .records-of .ensures) (length-records l z)) (s .pre .room))
 
 slice-aggregate-set-records : tie.Need-slice-aggregate-set-records
 slice-aggregate-set-records c = search needs
@@ -26,7 +35,10 @@ set-records-requires : tie.Need-set-records-requires
 set-records-requires c κs = search needs
 
 closed-numbers-requires : tie.Need-closed-numbers-requires
-closed-numbers-requires c κs = let s = c .before .before .before .before .before .before .before .before .before .before .before .before .before .before .before .before .before .before .before .before in next-epoch (s .args .lot .now) (s .pre .looked) (λ i. omega (arith, c .before .before .before .before .before .before .before .before .before .before .before .before .before .before .before .before .before .before .before .slice-known .given i .fits))
+closed-numbers-requires c κs =
+    let k = c .before .before .before .before .before .before .before .before .before .before .before .before .before .before .before .before .before .before .before in
+    let s = k .before in
+    next-epoch (s .args .lot .now) (s .pre .looked) (λ i. omega (arith, k .slice-known .given i .fits))
 
 set-head-requires : tie.Need-set-head-requires
 set-head-requires c κs = search needs
@@ -38,9 +50,16 @@ same-length-2 : tie.Need-same-length-2
 same-length-2 c = search needs
 
 returns : tie.Need-returns
-returns c = let s = c .before .before .before .before .before .before .before .before .before .before .before .before .before .before .before .before .before .before .before .before .before .before .before .before in let p = c .before .before .before .before .before .before .before .before .before .before .before .before .before .before .before .close-places in let r = c .before .before .before .before .before .before .before .set-records in let h = c .before .before .set-head in
-    close-done (s .args .lot .now) (s .pre) (p .last .0) (r .last .0) (h .last .0) (p .last .1 .0) (p .last .1 .1 .0) (p .result .pieces) (p .result .count)
-    (rw (c .before .before .before .before .before .before .before .before .before .before .before .before .before .before .before .before .before .before .before .snapshot .ensures, c .before .before .before .before .before .before .before .before .before .before .before .before .before .before .before .before .before .before .before .before .records-of .ensures) at (p .ensures)) (r .ensures) (rw (c .before .before .before .closed-numbers .ensures) at (h .ensures))
+returns c =
+    let h = c .before .before in
+    let r = h .before .before .before .before .before in
+    let p = r .before .before .before .before .before .before .before .before in
+    let n = p .before .before .before .before in
+    let o = n .before in
+    let s = o .before .before .before .before in
+    let q = p .close-places in
+    close-done (s .args .lot .now) (s .pre) (q .last .0) (r .set-records .last .0) (h .set-head .last .0) (q .last .1 .0) (q .last .1 .1 .0) (q .result .pieces) (q .result .count)
+    (rw (n .snapshot .ensures, o .records-of .ensures) at (q .ensures)) (r .set-records .ensures) (rw (h .before .closed-numbers .ensures) at (h .set-head .ensures))
 
 pub close-held-spec : {M : Type 1} → statement M
 close-held-spec =

@@ -24,13 +24,17 @@ same-length : tie.Need-same-length
 same-length c = search needs
 
 returns : tie.Need-returns
-returns c = let s = c .before .before .before .before .before .before in damaged (s .args .lot .now) (s .args .list .now) (s .args .number) (sym (c .before .before .look-at .ensures) ∙ c .enum-told .given .1)
+returns c =
+    let s = c .before .before .before .before .before .before in
+    damaged (s .args .lot .now) (s .args .list .now) (s .args .number) (sym (c .before .before .look-at .ensures) ∙ c .enum-told .given .1)
 
 same-length-2 : tie.Need-same-length-2
 same-length-2 c = search needs
 
 returns-2 : tie.Need-returns-2
-returns-2 c = let s = c .before .before .before .before .before .before in free (s .args .lot .now) (s .args .list .now) (s .args .number) (sym (c .before .before .look-at .ensures) ∙ c .enum-told2 .given .1)
+returns-2 c =
+    let s = c .before .before .before .before .before .before in
+    free (s .args .lot .now) (s .args .list .now) (s .args .number) (sym (c .before .before .look-at .ensures) ∙ c .enum-told2 .given .1)
 
 same-length-3 : tie.Need-same-length-3
 same-length-3 c = search needs

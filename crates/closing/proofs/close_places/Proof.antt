@@ -27,7 +27,10 @@ same-length-3 : tie.Need-same-length-3
 same-length-3 c = search needs
 
 returns : tie.Need-returns
-returns c = let f = c .before .before .before .before .before .before .close-sections in let s = c .before .before .before .before .before .before .before .before .before .before .before .before .before in places-closed (s .args .lot .now) (f .last .0) (s .pre .0) (omega arith) (f .ensures)
+returns c =
+    let f = c .before .before .before .before .before .before .close-sections in
+    let s = c .before .before .before .before .before .before .before .before .before .before .before .before .before in
+    places-closed (s .args .lot .now) (f .last .0) (s .pre .0) (omega arith) (f .ensures)
 
 pub close-places-spec : {M : Type 1} → statement M
 close-places-spec =

@@ -9,13 +9,19 @@ streams-of-requires : tie.Need-streams-of-requires
 streams-of-requires c κs = search needs
 
 missing-marks-requires : tie.Need-missing-marks-requires
-missing-marks-requires c κs = let s = c .before .before in limits (s .args .lot .now) (s .pre) (c .streams-of .result .now) (λ i. omega (arith, c .before .shared-slice-known .given i .fits)) (c .streams-of .ensures)
+missing-marks-requires c κs =
+    let s = c .before .before in
+    limits (s .args .lot .now) (s .pre) (c .streams-of .result .now) (λ i. omega (arith, c .before .shared-slice-known .given i .fits)) (c .streams-of .ensures)
 
 returns : tie.Need-returns
-returns c = let s = c .before .before .before .before .before in all-there (s .args .lot .now) (s .pre) (c .before .before .before .streams-of .result .now) (c .before .before .before .streams-of .ensures) (c .before .before .missing-marks .ensures) (c .if1 .taken)
+returns c =
+    let s = c .before .before .before .before .before in
+    all-there (s .args .lot .now) (s .pre) (c .before .before .before .streams-of .result .now) (c .before .before .before .streams-of .ensures) (c .before .before .missing-marks .ensures) (c .if1 .taken)
 
 returns-2 : tie.Need-returns-2
-returns-2 c = let s = c .before .before .before .before .before in some-missing (s .args .lot .now) (s .pre) (c .before .before .before .streams-of .result .now) (c .before .before .before .streams-of .ensures) (c .before .before .missing-marks .ensures) (c .if1 .left)
+returns-2 c =
+    let s = c .before .before .before .before .before in
+    some-missing (s .args .lot .now) (s .pre) (c .before .before .before .streams-of .result .now) (c .before .before .before .streams-of .ensures) (c .before .before .missing-marks .ensures) (c .if1 .left)
 
 pub judge-marks-spec : {M : Type 1} → statement M
 judge-marks-spec =

@@ -1,6 +1,5 @@
 -- `set_records` writes the records, and the other sections stay. Assumes nothing.
 use native.Mathlib.Omega.{arith}
-use mathlib.Core.Path.{_≡_}
 use Rattle.writes.proofs.Parts.{records-lent}
 use Rattle.epoch.proofs.Shot.{copied}
 use borrow.Author.Needs.{needs}
@@ -23,7 +22,10 @@ same-length : tie.Need-same-length
 same-length c = search needs
 
 returns : tie.Need-returns
-returns c = let f = c .before .before .copy in let s = c .before .before .before .before .before .before in rw (← copied (s .args .records .now) (f .last .1 .0) _ (omega arith) (f .ensures .1)) (records-lent (s .args .lot .now) (f .last .1 .0) (s .pre .0) (omega arith))
+returns c =
+    let f = c .before .before .copy in
+    let s = c .before .before .before .before .before .before in
+    rw (← copied (s .args .records .now) (f .last .1 .0) _ (omega arith) (f .ensures .1)) (records-lent (s .args .lot .now) (f .last .1 .0) (s .pre .0) (omega arith))
 
 pub set-records-spec : {M : Type 1} → statement M
 set-records-spec =
