@@ -13,15 +13,15 @@ use Rattle.verdicts.specs.Orderly.{Orderly}
 use Rattle.verdicts.specs.Verdicts.{Verdicts}
 use Rattle.install.specs.Pieces.{piecesOf, withPieces, countOf, withStreams}
 use Rattle.install.proofs.ToModel.{pieces-are}
-use Rattle.epoch.specs.Closed.{piecesIn, listedIn, numbersOf}
+use Rattle.epoch.specs.Closed.{piecesIn, listedIn, pairs}
 
-numbers-append : (ps qs : List Piece) → numbersOf (ps ++ qs) ≡ numbersOf ps ++ numbersOf qs
-unfolding numbersOf
+numbers-append : (ps qs : List Piece) → pairs (ps ++ qs) ≡ pairs ps ++ pairs qs
+unfolding pairs
 numbers-append [] qs = refl
 numbers-append (p ∷ ps) qs = rw (numbers-append ps qs)
 
-length-numbers : (ps : List Piece) → length (numbersOf ps) ≡ length ps * 2
-unfolding numbersOf
+length-numbers : (ps : List Piece) → length (pairs ps) ≡ length ps * 2
+unfolding pairs
 length-numbers [] = omega arith
 length-numbers (p ∷ ps) = omega (arith, length-numbers ps)
 
@@ -50,15 +50,15 @@ module _ (h : List ℕ) where
   abbrev pub pairsOf : ℕ → List ℕ → List Piece
   pairsOf s is = map (piece s) (map (λ i. itemAt h i .entry .transaction) is)
 
-  with-is : (l : List ℕ) (s : ℕ) (is F : List ℕ) (p : ℕ) → length F ≡ p * 2 → (p + length is) * 2 ≤ length l → withPieces h (F ++ drop (p * 2) l) p s is ≡ (F ++ numbersOf (pairsOf s is)) ++ drop ((p + length is) * 2) l
-  unfolding withPieces numbersOf
+  with-is : (l : List ℕ) (s : ℕ) (is F : List ℕ) (p : ℕ) → length F ≡ p * 2 → (p + length is) * 2 ≤ length l → withPieces h (F ++ drop (p * 2) l) p s is ≡ (F ++ pairs (pairsOf s is)) ++ drop ((p + length is) * 2) l
+  unfolding withPieces pairs
   with-is l s [] F p e u = let z : p + 0 ≡ p = omega arith in rw (z, append-nil F)
   with-is l s (i ∷ is) F p e u =
       let t = itemAt h i .entry .transaction in
       let z : p + suc (length is) ≡ suc p + length is = omega arith in
       ap (λ m. withPieces h m (suc p) s is) (pair F l p s t e (omega arith))
       ∙ with-is l s is (F ++ (s ∷ t ∷ [])) (suc p) (length-append F (s ∷ t ∷ []) ∙ omega (arith, e)) (omega arith)
-      ∙ rw (z, append-assoc F (s ∷ t ∷ []) (numbersOf (pairsOf s is)))
+      ∙ rw (z, append-assoc F (s ∷ t ∷ []) (pairs (pairsOf s is)))
 
   module _ (numbers : List ℕ) (n : ℕ) where
     abbrev pub listedBy : ℕ → List Piece
@@ -74,15 +74,15 @@ module _ (h : List ℕ) where
         omega (arith, length-listed f, ap length (listed-more f), length-append (listedBy f) (pairsOf f (piecesOf numbers h n f)),
           length-map (map (λ i. itemAt h i .entry .transaction) (piecesOf numbers h n f)) (piece f), length-map (piecesOf numbers h n f) (λ i. itemAt h i .entry .transaction))
 
-    pub streams-are : (l : List ℕ) (f : ℕ) → countOf numbers h n f * 2 ≤ length l → withStreams numbers h n l f ≡ numbersOf (listedBy f) ++ drop (countOf numbers h n f * 2) l
-    unfolding withStreams numbersOf upward sumBelow
+    pub streams-are : (l : List ℕ) (f : ℕ) → countOf numbers h n f * 2 ≤ length l → withStreams numbers h n l f ≡ pairs (listedBy f) ++ drop (countOf numbers h n f * 2) l
+    unfolding withStreams pairs upward sumBelow
     streams-are l zero u = refl
     streams-are l (suc f) u =
         let p = countOf numbers h n f in
         let is = piecesOf numbers h n f in
         ap (λ m. withPieces h m p f is) (streams-are l f (omega arith))
-        ∙ with-is l f is (numbersOf (listedBy f)) p (length-numbers (listedBy f) ∙ ap (λ m. m * 2) (length-listed f)) u
-        ∙ ap (λ m. m ++ drop ((p + length is) * 2) l) (sym (ap numbersOf (listed-more f) ∙ numbers-append (listedBy f) (pairsOf f is)))
+        ∙ with-is l f is (pairs (listedBy f)) p (length-numbers (listedBy f) ∙ ap (λ m. m * 2) (length-listed f)) u
+        ∙ ap (λ m. m ++ drop ((p + length is) * 2) l) (sym (ap pairs (listed-more f) ∙ numbers-append (listedBy f) (pairsOf f is)))
 
     pub listed-is : (e f : ℕ) → Orderly h n → Verdicts numbers h n e → listedBy f ≡ listedIn h n e f
     unfolding listedIn

@@ -47,16 +47,16 @@ module _ (h : List ℕ) (n e : ℕ) where
   unfoldable pub listedIn : ℕ → List Piece
   listedIn f = upward f 0 (λ i. map (λ t. record { fragment = i; transaction = t }) (piecesIn i))
 
--- pairs of numbers (fragment, transaction)
-unfoldable pub numbersOf : List Piece → List ℕ
-numbersOf [] = []
-numbersOf (p ∷ ps) = p .fragment ∷ p .transaction ∷ numbersOf ps
+-- the pairs of numbers (fragment, transaction), one after the other
+unfoldable pub pairs : List Piece → List ℕ
+pairs [] = []
+pairs (p ∷ ps) = p .fragment ∷ p .transaction ∷ pairs ps
 
 -- ---- what the close leaves: places h', records r', list l'; it answers p pieces and n' places
 
 pub record Closed (f c n : ℕ) (h h' r r' l l' : List ℕ) (p n' : ℕ) : Type 0 where
   pub counted : p ≡ length (listedIn h n (suc c) f)
-  pub listed : l' ≡ numbersOf (listedIn h n (suc c) f) ++ drop (p * 2) l
+  pub listed : l' ≡ pairs (listedIn h n (suc c) f) ++ drop (p * 2) l
   pub held : (i : ℕ) → mine i (items n' h') ≡ survivors (suc c) (verdictIn h n (suc c) i) (mine i (items n h))
   pub sorted : Sorted f (items n' h')
   pub plain-places : plain n' h' ≡ true

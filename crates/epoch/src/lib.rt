@@ -52,12 +52,13 @@ pub fn missing_marks(streams: &[u8], fragments: u8, closed: u32) -> Missing
     }
 }
 
-fn snapshot(places: &[u8]) -> [u8; 5120]
-    requires { ⌜ length (now places) ≡ 5120 ⌝ }
-    ensures { λ r. ⌜ r ≡ now (places .entry) ⌝ }
+// A section as it stands.
+pub fn snapshot(section: &[u8]) -> [u8; 5120]
+    requires { ⌜ length (now section) ≡ 5120 ⌝ }
+    ensures { λ r. ⌜ r ≡ now (section .entry) ⌝ }
 {
     let mut old = [0u8; 5120];
-    bytes::copy(places, &mut old);
+    bytes::copy(section, &mut old);
     old
 }
 

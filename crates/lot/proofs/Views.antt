@@ -173,7 +173,7 @@ module _ (h s p r : List ℕ) (a : Account) (w : Shows h s p r a) (ok : WellForm
     let o : a .closed < number32 s (i * 8 + 4) = omega (arith, ok .opened i l, epoch-at s i, ap (λ x. x .epoch) (w .streams .counters i l)) in
     rw (eq-eqb (number16 s (i * 8 + 2)) 0 (w .streams .zero-bytes i l), lt-ltb (a .closed) (number32 s (i * 8 + 4)) o))
 
-  section-fits : sectionFits (a .keys) (a .closed) (parse (a .fragments) 8 countersOf s) n p ≡ true
+  pub section-fits : sectionFits (a .keys) (a .closed) (parse (a .fragments) 8 countersOf s) n p ≡ true
   unfolding sectionFits
   section-fits =
       let f = a .fragments in

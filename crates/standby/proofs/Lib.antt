@@ -4,6 +4,7 @@ pub mod Looks
 pub mod Named
 pub mod Calls
 pub mod Delivering
+pub mod Closing
 pub mod Rows
 pub mod Determined
 pub mod Isolated

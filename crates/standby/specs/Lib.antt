@@ -1,3 +1,4 @@
 pub mod Memory
 pub mod Looks
 pub mod Calls
+pub mod Closing

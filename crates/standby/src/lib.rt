@@ -1,6 +1,6 @@
 // Lots in lent memory, and the calls. What each call owes stands in specs/Calls.antt.
 // A call finds its lot, looks at it once, decides, and only then writes, in that lot alone: the lot is lent on as a part of the memory.
-// It stands on `lot`, on `taking`, which delivers to one lot, and on `model`.
+// It stands on `lot`, on `taking` and `closing`, which deliver to one lot and close an epoch in it, and on `model`.
 ghost use mathlib.Core.Path.{_≡_};
 ghost use mathlib.Core.Bool.{true};
 ghost use Prim.Native.Nat.{_+_, _*_, _≤_, _<_};
@@ -12,7 +12,9 @@ ghost use Rattle.lot.specs.Writing.{foundOf};
 ghost use Rattle.standby.specs.Memory.{memoryFits, lotFits, lotOf, viewOf, Becomes, accountIn, named};
 ghost use Rattle.standby.specs.Looks.{lookFrom, looksDamaged, looksFree, looksOf, rowFrom, findingIn, findingOf, surveyOf, withLook, placeIn};
 ghost use Rattle.standby.specs.Calls.{AllFree, Started, openAnswer, AccountOpened, deliverTo, TakenBy, Delivered, readAnswer, Dropped, rowOf, rowAt, overviewAnswer, rowsFor, Overviewed};
+ghost use Rattle.standby.specs.Closing.{closeFrom, ClosedAs, EpochClosed};
 use lot::Look;
+use model::Closed;
 use model::Found;
 use model::Opened;
 use model::Outcome;
@@ -260,6 +262,27 @@ pub fn deliver(memory: &mut [u8], lots: u32, lot: u32, account: u32, entry: &[u8
         return Outcome::Refused(Refusal::NoSuchLot);
     }
     deliver_in(memory, lot as usize, account, entry)
+}
+
+// ---- close
+
+fn close_in(memory: &mut [u8], lot: usize, account: u32, list: &mut [u32]) -> Closed
+    requires { ⌜ lot * SIZE + SIZE ≤ length (now memory) ⌝ }
+    ensures { λ r. ⌜ (r ≡ closeFrom (accountIn (viewOf (now (memory .entry)) lot) account) (length (now (list .entry)))) × ClosedAs (now (memory .entry)) (now (memory .exit)) lot (now (list .entry)) (now (list .exit)) r ⌝ }
+{
+    let a = lot * lot::SIZE;
+    let e = a + lot::SIZE;
+    closing::close_lot(&mut memory[a..e], account, list)
+}
+
+// The desk lends a list with room for 512 numbers, and the call writes the pairs of the pieces.
+pub fn close_epoch(memory: &mut [u8], lots: u32, lot: u32, account: u32, list: &mut [u32]) -> Closed
+    ensures { λ r. ⌜ EpochClosed (now (memory .entry)) (now (memory .exit)) lots lot account (now (list .entry)) (now (list .exit)) r ⌝ }
+{
+    if !lot_fits(memory, lots, lot) {
+        return Closed::NotClosed(Refusal::NoSuchLot);
+    }
+    close_in(memory, lot as usize, account, list)
 }
 
 // ---- read

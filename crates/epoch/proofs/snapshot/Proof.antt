@@ -14,7 +14,7 @@ copy-requires : tie.Need-copy-requires
 copy-requires c κs = search needs
 
 returns : tie.Need-returns
-returns c = let a = c .before .before .before .before .args in copied (a .places .now) _ _ (sym (c .before .before .before .before .pre)) (c .before .copy .ensures .1)
+returns c = let a = c .before .before .before .before .args in copied (a .section .now) _ _ (sym (c .before .before .before .before .pre)) (c .before .copy .ensures .1)
 
 pub snapshot-spec : {M : Type 1} → statement M
 snapshot-spec = tie.close (tie.spec slice-aggregate-copy copy-requires returns)
