@@ -1,41 +1,36 @@
 -- A lot into which an accepted image is loaded holds the account that the data show. Assumes nothing.
-use Prim.Native.Nat.{ℕ, zero, suc, _+_, _*_, _-_, _<_, _≤_}
-use mathlib.Core.Path.{_≡_, refl, sym, ap, _∙_}
+use Prim.Native.Nat.{ℕ, _*_, _-_, _<_, _≤_}
+use mathlib.Core.Path.{_≡_, sym, ap, _∙_}
 use mathlib.Core.Bool.{true}
-use mathlib.Core.Option.{some}
-use mathlib.Core.List.{List, [], _∷_, _++_}
+use mathlib.Core.List.{List, _++_}
 use native.Mathlib.Omega.{arith}
-use lib.Dec.{leb, ltb}
 use lib.ListN.{length, take, drop, length-drop}
 use lib.Seq.{drop-drop}
-use borrow.Author.Tests.{leb-true, ltb-true, eqb-true}
-use Rattle.wire.specs.Numbers.{number16}
-use Rattle.model.specs.Lists.{every}
-use Rattle.model.specs.Account.{Account, accountFits, heldCount}
-use Rattle.model.specs.Image.{Form, form, stream8, held20, each}
-use Rattle.model.specs.Decoding.{countersOf, presentOf, itemOf, parse, mine, find, account, formFits, heldFits, lastOf, load}
+use borrow.Author.Tests.{leb-true, ltb-true}
+use Rattle.model.specs.Account.{Account, accountFits}
+use Rattle.model.specs.Image.{Form, stream8, held20, each}
+use Rattle.model.specs.Decoding.{countersOf, itemOf, parse, mine, account, formFits, lastOf}
 use Rattle.model.specs.Section.{items}
 use Rattle.model.proofs.Tests.{nth}
 use Rattle.model.proofs.ByStream.{held-sorted}
 use Rattle.model.proofs.Decode.{stream-long, stream-back, item-long, item-back, parse-each}
-use Rattle.model.proofs.Forms.{held-length}
-use Rattle.model.proofs.Image.{form-account, well-formed}
+use Rattle.model.proofs.Image.{well-formed}
 use Rattle.lookback.proofs.Places.{length-parse}
 use Rattle.lot.specs.Layout.{streamsOf, placesOf}
 use Rattle.lot.specs.Head.{numbersWith}
-use Rattle.lot.specs.View.{streamFits, allBelow, holds, viewLot}
-use Rattle.lot.proofs.Shown.{StreamsShow, PlacesShow, Shows, head-shown}
+use Rattle.lot.specs.View.{holds, viewLot}
+use Rattle.lot.proofs.Shown.{StreamsShow, PlacesShow, head-shown}
 use Rattle.lot.proofs.Views.{below-in, streams-are}
 use Rattle.writes.specs.Sections.{overwritten}
 use Rattle.writes.proofs.Changes.{sections-hold}
-use Rattle.trailer.specs.Trailer.{imageLength, trailerFits}
+use Rattle.trailer.specs.Trailer.{trailerFits}
 use Rattle.trailer.specs.declared.Trailer.{Trailer}
 use Rattle.judging.specs.Judging.{judgedOf, presentAt, recordFits, sectionsFit}
 use Rattle.judging.specs.declared.Judged.the-variants.{Accepted}
 use Rattle.judging.proofs.Parts.{Bytes, bytes-drop, streams-sound, held-sound, streams-plain, held-plain}
 use Rattle.judging.proofs.Sections.{account-fits, held-fit, shownBy, Plain, sections-plain}
 use Rattle.judging.proofs.Passing.{Passes, lastNumbers, lastImage, agrees, within, long-image, partFrom, part-from, loaded, form-passes, accepted-passes, accepted-numbers}
-use Rattle.image.specs.Loading.{SmallRecord, SmallRecords, headNumbers, Loadable, ImageLoaded, LotLoaded}
+use Rattle.image.specs.Loading.{headNumbers, Loadable, ImageLoaded, LotLoaded}
 use Rattle.image.proofs.Putting.{found-as-put}
 
 module _ (t : Trailer) (b : List ℕ) (bb : Bytes b) (w : formFits (shownBy t b) ≡ true) (p : Plain t b) (can : Loadable t b) where

@@ -11,10 +11,10 @@ use lib.Seq.{drop-drop}
 use borrow.Author.Tests.{eq-eqb, ne-eqb}
 use Rattle.wire.specs.Numbers.{number16, number32}
 use Rattle.model.specs.Lists.{if_then_else_}
-use Rattle.model.specs.Account.{Record, absent, present}
+use Rattle.model.specs.Account.{Record, present}
 use Rattle.model.specs.Image.{Present}
 use Rattle.model.specs.Decoding.{presentOf, parse, find}
-use Rattle.lot.specs.Layout.{SIZE, headOf, streamsOf, placesOf, recordsOf}
+use Rattle.lot.specs.Layout.{SIZE, streamsOf, placesOf, recordsOf}
 use Rattle.lot.specs.View.{recordAt}
 use Rattle.lot.specs.Head.{headBytes}
 use Rattle.lot.specs.Writing.{withRecord}

@@ -1,23 +1,23 @@
 -- The sections of a lot and the trailer behind them are the image of the account that the lot holds. Assumes nothing.
-use Prim.Native.Nat.{ℕ, zero, suc, _+_, _*_, _-_, _/_, _<_, _≤_}
-use mathlib.Core.Path.{_≡_, refl, sym, ap, _∙_}
+use Prim.Native.Nat.{ℕ, zero, suc, _+_, _*_, _-_, _/_, _≤_}
+use mathlib.Core.Path.{_≡_, sym, ap, _∙_}
 use mathlib.Core.List.{List, [], _∷_, _++_, map, append-assoc}
 use native.Mathlib.Omega.{arith}
-use lib.ListN.{length, getD, take, drop, length-append}
+use lib.ListN.{length, take, drop, length-append}
 use lib.Seq.{length-take-le}
 use borrow.Author.Tests.{leb-true}
 use Rattle.model.specs.Lists.{upward}
 use Rattle.model.specs.Account.{Account, accountFits, heldCount}
 use Rattle.model.specs.Accepting.{WellFormed}
-use Rattle.model.specs.Image.{Form, Present, Item, shown, form, stream8, record8, held20, each, trailer24, body, bytes, image}
-use Rattle.model.specs.Decoding.{countersOf, itemOf, parse, mine}
+use Rattle.model.specs.Image.{shown, form, stream8, record8, held20, each, trailer24, body, bytes, image}
+use Rattle.model.specs.Decoding.{countersOf, parse, mine}
 use Rattle.model.specs.Section.{items}
-use Rattle.model.proofs.Tests.{no-way, nth}
-use Rattle.model.proofs.Buckets.{upward-cong, singles}
+use Rattle.model.proofs.Tests.{nth}
+use Rattle.model.proofs.Buckets.{upward-cong}
 use Rattle.model.proofs.Shows.{item, by-streams}
 use Rattle.model.proofs.Decode.{trailer-long, length-bytes, length-form}
 use Rattle.model.proofs.Forms.{streams-length, held-length}
-use Rattle.lot.specs.Layout.{SIZE, headOf, streamsOf, placesOf, recordsOf}
+use Rattle.lot.specs.Layout.{SIZE, streamsOf, placesOf, recordsOf}
 use Rattle.lot.specs.View.{holds, viewLot, recordAt}
 use Rattle.lot.specs.Head.{numbersWith}
 use Rattle.lot.specs.Look.{lookOf}
@@ -30,7 +30,7 @@ use Rattle.lot.proofs.Lengths.{length-streams, length-places}
 use Rattle.trailer.specs.Trailer.{trailerBytes}
 use Rattle.trailer.specs.declared.Trailer.{Trailer}
 use Rattle.judging.proofs.Parts.{Bytes, bytes-drop, parse-singles, streams-sound, held-sound}
-use Rattle.judging.proofs.Trailers.{formNumbers, trailer-is}
+use Rattle.judging.proofs.Trailers.{trailer-is}
 use Rattle.image.specs.Saving.{Written, SectionsSaved, BodySaved, recordBytes, trailerBehind, SavedAs, LotSaved}
 use Rattle.image.proofs.Writing.{write-more, write-part}
 
@@ -70,15 +70,15 @@ module _ (l : List ℕ) {a : Account} (v : viewLot l ≡ holds a) (size : length
   streams-are =
       let s = streamsOf l in
       let q : upward (a .fragments) 0 (λ i. a .at i .counters ∷ []) ≡ parse (a .fragments) 8 countersOf s =
-            upward-cong (a .fragments) 0 (λ i. a .at i .counters ∷ []) (λ i. countersOf (drop (i * 8) s) ∷ []) (λ i u h. ap (λ c. c ∷ []) (sym (shows .streams .counters i (omega arith))))
-            ∙ sym (parse-singles 8 countersOf (a .fragments) s) in
+      upward-cong (a .fragments) 0 (λ i. a .at i .counters ∷ []) (λ i. countersOf (drop (i * 8) s) ∷ []) (λ i u h. ap (λ c. c ∷ []) (sym (shows .streams .counters i (omega arith))))
+      ∙ sym (parse-singles 8 countersOf (a .fragments) s) in
       rw q (streams-sound (a .fragments) s (bytes-take 64 (drop 16 l) (bytes-drop 16 l b)) (omega (arith, leb-true (a .fragments) 8 (nth _ (ok .fits) 3), length-streams l size)) (shows .streams .zero-bytes))
 
   records-are : each record8 (form a .records) ≡ recordBytes (recordsOf l) (a .keys) (a .fragments)
   unfolding form recordBytes
   records-are =
       ap (each record8) (upward-cong (a .fragments) 0 _ _ (λ i u h. upward-cong (a .keys) 0 (λ k. shown i k (a .at i .records k)) (λ k. shown i k (recordAt (recordsOf l) i k))
-        (λ k w g. ap (shown i k) (sym (shows .records i k (omega arith) (omega arith))))))
+      (λ k w g. ap (shown i k) (sym (shows .records i k (omega arith) (omega arith))))))
 
   held-are : each held20 (form a .held) ≡ take (heldCount a * 20) (placesOf l)
   unfolding form
@@ -87,8 +87,8 @@ module _ (l : List ℕ) {a : Account} (v : viewLot l ≡ holds a) (size : length
       let c = shows .count in
       let e = shown-count p c a (shows .places) in
       let q : upward (a .fragments) 0 (λ i. map (item i) (a .at i .held)) ≡ items c p =
-            upward-cong (a .fragments) 0 (λ i. map (item i) (a .at i .held)) (λ i. map (item i) (mine i (items c p))) (λ i u h. ap (map (item i)) (sym (shows .places .held i (omega arith))))
-            ∙ by-streams (a .fragments) (items c p) (shows .places .sorted) in
+      upward-cong (a .fragments) 0 (λ i. map (item i) (a .at i .held)) (λ i. map (item i) (mine i (items c p))) (λ i u h. ap (map (item i)) (sym (shows .places .held i (omega arith))))
+      ∙ by-streams (a .fragments) (items c p) (shows .places .sorted) in
       rw (q, e) (held-sound c p (bytes-take 5120 (drop 80 l) (bytes-drop 80 l b)) (omega (arith, e, ok .room, length-places l size)) (shows .places .plain-places))
 
   module _ {m m' : List ℕ} {end : ℕ} (w : BodySaved l (numbersIn a) m m' end) where
@@ -104,14 +104,14 @@ module _ (l : List ℕ) {a : Account} (v : viewLot l ≡ holds a) (size : length
         let whole : length (body x) + 24 ≡ end + 24 = omega (arith, body-is .behind) in
         sym (trailer-is x (length (body x) + 24)
         ∙ ap trailerBytes (λ i. record {
-            number = a .number;
-            fragments = streams-length a i;
-            keys = a .keys;
-            records = many i;
-            held = held-length a i;
-            closed = a .closed;
-            length = whole i;
-          }))
+          number = a .number;
+          fragments = streams-length a i;
+          keys = a .keys;
+          records = many i;
+          held = held-length a i;
+          closed = a .closed;
+          length = whole i;
+        }))
 
     image-saved : end + 24 ≤ length m' → (q : List ℕ) → q ≡ trailerBytes (trailerBehind (numbersIn a) end) → SavedAs m (take end m' ++ (q ++ drop (end + 24 - end) (drop end m'))) (end + 24) a
     unfolding image bytes

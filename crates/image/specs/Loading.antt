@@ -7,7 +7,7 @@ use lib.ListN.{length, take, drop}
 use Rattle.model.specs.Account.{Account}
 use Rattle.model.specs.Image.{Present}
 use Rattle.model.specs.Decoding.{presentOf, parse, load}
-use Rattle.lot.specs.Layout.{headOf, streamsOf, placesOf, recordsOf}
+use Rattle.lot.specs.Layout.{streamsOf, placesOf, recordsOf}
 use Rattle.lot.specs.View.{holds, viewLot}
 use Rattle.lot.specs.Head.{headBytes}
 use Rattle.lot.specs.Writing.{withRecord}
@@ -55,7 +55,7 @@ pub record ImageLoaded (l m : List ℕ) (t : Trailer) (b : List ℕ) : Type 0 wh
   pub zeros : Zeros cleared
   pub sized : length cleared ≡ 5120
   pub sections : Sections m (headBytes (headNumbers t)) (overwritten (take (t .fragments * 8) b) (streamsOf l)) (overwritten (take (t .held * 20) (drop (t .fragments * 8 + t .records * 8) b)) (placesOf l))
-    (withAll cleared (parse (t .records) 8 presentOf (drop (t .fragments * 8) b)))
+      (withAll cleared (parse (t .records) 8 presentOf (drop (t .fragments * 8) b)))
 
 -- the lot m holds the account that the data given show
 abbrev pub LotLoaded : List ℕ → List ℕ → Type 0

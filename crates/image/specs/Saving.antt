@@ -1,7 +1,7 @@
 -- What saving a lot leaves in the lent buffer.
 use Prim.Native.Nat.{ℕ, _+_, _*_, _-_, _/_, _≤_}
 use mathlib.Core.Path.{_≡_}
-use mathlib.Core.List.{List, [], _∷_, _++_}
+use mathlib.Core.List.{List, _++_}
 use lib.ListN.{length, take, drop}
 use Rattle.model.specs.Lists.{upward}
 use Rattle.model.specs.Account.{Account}

@@ -113,7 +113,14 @@ fn save_body(lot: &[u8], account: Account, image: &mut [u8]) -> usize
     let places = lot::places_of(lot);
     let a = (account.fragments as usize) * 8;
     let b = (account.held as usize) * 20;
-    save_sections(&streams[0..a], records, &places[0..b], account.keys as usize, account.fragments as usize, image)
+    save_sections(
+        &streams[0..a],
+        records,
+        &places[0..b],
+        account.keys as usize,
+        account.fragments as usize,
+        image,
+    )
 }
 
 // The numbers of the trailer that stands from index `end` on.

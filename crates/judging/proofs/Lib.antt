@@ -3,3 +3,4 @@ pub mod Records
 pub mod Trailers
 pub mod Sections
 pub mod Passing
+pub mod Examples

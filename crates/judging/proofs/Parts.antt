@@ -8,7 +8,7 @@ use native.Mathlib.Nat.{suc-mul}
 use lib.Dec.{eqb, leb}
 use lib.ListN.{length, getD, take, drop, length-drop}
 use lib.Seq.{drop-cons, getD-drop, take-add, drop-at, drop-drop}
-use borrow.Author.Tests.{eqb-true, leb-true, eq-eqb}
+use borrow.Author.Tests.{eqb-true, leb-true}
 use Rattle.wire.specs.Numbers.{number16, number32, bytes16, bytes32}
 use Rattle.model.specs.Lists.{every, upward, one}
 use Rattle.model.specs.Image.{Present, Item, stream8, record8, held20, each}

@@ -1,30 +1,28 @@
 -- Data pass the tests of judging exactly if the model's load accepts them, and then the trailer has the account's numbers. Assumes nothing.
-use Prim.Native.Nat.{ℕ, zero, suc, _+_, _*_, _-_, _<_, _≤_}
+use Prim.Native.Nat.{ℕ, _+_, _*_, _-_, _<_, _≤_}
 use mathlib.Core.Path.{_≡_, refl, sym, ap, _∙_}
 use mathlib.Core.Bool.{Bool, true, false, _&&_, and-true, and-assoc}
 use mathlib.Core.Option.{Option, some, none}
-use mathlib.Core.List.{List, [], _∷_, _++_, append-assoc}
+use mathlib.Core.List.{List, _++_, append-assoc}
 use native.Mathlib.Omega.{arith}
-use lib.Dec.{leb, ltb, eqb}
 use lib.ListN.{length, getD, take, drop, length-append, length-drop, take-append-drop}
 use lib.Seq.{drop-drop, take-all}
 use borrow.Author.Tests.{eqb-true, eq-eqb, leb-true, le-leb}
-use Rattle.wire.specs.Numbers.{number16, number32}
-use Rattle.model.specs.Lists.{if_then_else_, every}
-use Rattle.model.specs.Account.{Account, accountFits, heldCount}
+use Rattle.wire.specs.Numbers.{number16}
+use Rattle.model.specs.Lists.{every}
+use Rattle.model.specs.Account.{Account}
 use Rattle.model.specs.Image.{Form, form, stream8, record8, held20, each, trailer24, body, bytes, image}
-use Rattle.model.specs.Accepting.{WellFormed, Accepted}
+use Rattle.model.specs.Accepting.{Accepted}
 use Rattle.model.specs.Section.{sectionFits}
 use Rattle.lot.specs.View.{streamFits, allBelow}
-use Rattle.model.specs.Decoding.{countersOf, parse, lastOf, decodeWith, decode, account, formFits, accepts, load}
+use Rattle.model.specs.Decoding.{countersOf, parse, lastOf, decodeWith, account, formFits, accepts, load}
 use Rattle.model.proofs.Tests.{no-way, nth}
 use Rattle.model.proofs.Decode.{trailer-last, last-of, length-bytes, length-form, with-trailer, past-streams, drop-each, record-long}
-use Rattle.model.proofs.Forms.{streams-length, held-length}
+use Rattle.model.proofs.Forms.{held-length}
 use Rattle.model.proofs.Image.{loads-exactly, form-account, form-fits, well-formed}
 use Rattle.trailer.specs.Trailer.{numbersOf, trailerBytes, signed, imageLength, trailerFits}
 use Rattle.trailer.specs.declared.Trailer.{Trailer}
 use Rattle.judging.specs.Judging.{trailerOf, judgedAs, judgedOf, recordFits, sectionsFit}
-use Rattle.judging.specs.declared.Judged.{Judged}
 use Rattle.judging.specs.declared.Judged.the-variants as judged
 use Rattle.judging.proofs.Parts.{Bytes, bytes-drop, streams-plain, records-plain, held-plain}
 use Rattle.judging.proofs.Trailers.{formNumbers, trailer-is, numbers-back, trailer-signed, trailer-zeros, bytes-back}
@@ -88,10 +86,6 @@ module _ (l : List ℕ) (bl : Bytes l) (p : Passes l) where
       let n = nth _ (p .trailer) in
       let z : length l - t .length + (t .length - 24) ≡ length l - 24 = omega (arith, agrees, within) in
       drop-drop (t .length - 24) (length l - t .length) l ∙ rw z (sym (bytes-back m (bytes-drop (length l - 24) l bl) (omega (arith, length-drop (length l - 24) l, p .long)) (p .is-signed) (eqb-true (getD m 3 0) 0 (n 0)) (eqb-true (number16 m 10) 0 (n 1))))
-
-  decoded : decode l ≡ shownBy t b
-  unfolding decode decodeWith numbersOf
-  decoded = refl
 
   pub form-passes : formFits (shownBy t b) ≡ true
   unfolding trailerFits

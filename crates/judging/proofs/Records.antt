@@ -4,8 +4,8 @@ use mathlib.Core.Path.{_≡_, refl, sym, ap, _∙_}
 use mathlib.Core.Bool.{Bool, true, false, _&&_, and-true, and-assoc}
 use mathlib.Core.List.{List, [], _∷_, _++_}
 use native.Mathlib.Omega.{arith}
-use lib.Dec.{leb, ltb, eqb}
-use lib.ListN.{length, getD, drop}
+use lib.Dec.{leb, ltb}
+use lib.ListN.{getD}
 use lib.Seq.{getD-drop}
 use borrow.Author.Tests.{le-leb}
 use Rattle.wire.specs.Numbers.{number16, number32}

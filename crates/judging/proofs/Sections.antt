@@ -1,17 +1,17 @@
 -- The sections of an image pass their tests exactly if their zero bytes are zero and what they show fits; then they are its bytes. Assumes nothing.
-use Prim.Native.Nat.{ℕ, zero, suc, _+_, _*_, _-_, _<_, _≤_}
-use mathlib.Core.Path.{_≡_, refl, sym, ap, _∙_}
-use mathlib.Core.Bool.{Bool, true, false, _&&_}
-use mathlib.Core.List.{List, [], _∷_, _++_}
+use Prim.Native.Nat.{ℕ, zero, _+_, _*_, _-_, _<_}
+use mathlib.Core.Path.{_≡_, sym, ap, _∙_}
+use mathlib.Core.Bool.{Bool, true, _&&_}
+use mathlib.Core.List.{List, [], _++_}
 use native.Mathlib.Omega.{arith}
-use lib.Dec.{leb, ltb, eqb}
+use lib.Dec.{leb, ltb}
 use lib.ListN.{length, getD, take, drop, length-drop, take-append-drop}
 use lib.Seq.{take-add, length-take-le}
 use borrow.Author.Tests.{eqb-true, eq-eqb}
 use Rattle.wire.specs.Numbers.{number16, number32}
 use Rattle.model.specs.Lists.{every, all}
 use Rattle.model.specs.Account.{accountFits}
-use Rattle.model.specs.Image.{Form, stream8, record8, held20, each, trailer24, body, bytes}
+use Rattle.model.specs.Image.{Form, each, trailer24, body, bytes}
 use Rattle.model.specs.Decoding.{countersOf, presentOf, itemOf, parse, recordsFit, heldFits, formFits}
 use Rattle.model.specs.Section.{plain, sectionFits}
 use Rattle.model.specs.declared.Counters.{Counters}

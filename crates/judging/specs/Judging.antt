@@ -1,6 +1,6 @@
 -- What judging data answers, by the model's load; and the tests of an image's sections that it is made of.
 use Prim.Native.Nat.{ℕ, zero, suc, _+_, _*_}
-use mathlib.Core.Bool.{Bool, true, _&&_}
+use mathlib.Core.Bool.{Bool, true}
 use mathlib.Core.Option.{Option, some, none}
 use mathlib.Core.List.{List, [], _∷_}
 use lib.Dec.{ltb, eqb}
@@ -57,8 +57,8 @@ unfoldable pub sectionsFit : Trailer → List ℕ → Bool
 sectionsFit t b =
     let records = drop (t .fragments * 8) b in
     every (
-      allBelow (streamFits (t .closed) b) (t .fragments)
-      ∷ allBelow (recordFits (t .fragments) (t .keys) records) (t .records)
-      ∷ sectionFits (t .keys) (t .closed) (parse (t .fragments) 8 countersOf b) (t .held) (drop (t .records * 8) records)
-      ∷ []
+    allBelow (streamFits (t .closed) b) (t .fragments)
+    ∷ allBelow (recordFits (t .fragments) (t .keys) records) (t .records)
+    ∷ sectionFits (t .keys) (t .closed) (parse (t .fragments) 8 countersOf b) (t .held) (drop (t .records * 8) records)
+    ∷ []
     )

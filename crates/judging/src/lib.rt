@@ -71,7 +71,14 @@ fn sections_fit(image: &[u8], t: Trailer) -> bool
     let b = a + (t.records as usize) * 8;
     lot::streams_fit(image, t.fragments as usize, t.closed)
         & records_fit(&image[a..], t.records as usize, t.fragments, t.keys)
-        & held::section_fits(image, &image[b..], t.fragments, t.keys, t.closed, t.held as usize)
+        & held::section_fits(
+            image,
+            &image[b..],
+            t.fragments,
+            t.keys,
+            t.closed,
+            t.held as usize,
+        )
 }
 
 pub enum Judged {

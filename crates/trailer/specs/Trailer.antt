@@ -42,10 +42,10 @@ unfoldable pub trailerFits : ℕ → List ℕ → Bool
 trailerFits n m =
     let t = numbersOf m in
     every (
-      eqb (getD m 3 0) 0 ∷ eqb (number16 m 10) 0
-      ∷ accountFits (t .number) (t .fragments) (t .keys)
-      ∷ leb (t .held) MOST-HELD
-      ∷ eqb (t .length) (imageLength (t .fragments) (t .records) (t .held))
-      ∷ leb (t .length) n
-      ∷ []
+    eqb (getD m 3 0) 0 ∷ eqb (number16 m 10) 0
+    ∷ accountFits (t .number) (t .fragments) (t .keys)
+    ∷ leb (t .held) MOST-HELD
+    ∷ eqb (t .length) (imageLength (t .fragments) (t .records) (t .held))
+    ∷ leb (t .length) n
+    ∷ []
     )

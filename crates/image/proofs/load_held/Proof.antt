@@ -1,30 +1,21 @@
+-- `load_held` leaves the head, and the streams and places overwritten. Assumes nothing.
 use Rattle.image.proofs.Putting.{held-loaded}
 use borrow.Author.Needs.{needs}
 use Rattle.image.proofs.load_held.Statement.{statement}
 use Rattle.image.proofs.load_held.Tie as tie
-use Rattle.image.proofs.load_held.Reads as reads
-use Rattle.image.proofs.load_held.Lts as lts
-use Rattle.writes.proofs.set_head.Reads as set-head-reads
-use Rattle.writes.proofs.set_places.Reads as set-places-reads
-use Rattle.writes.proofs.set_streams.Reads as set-streams-reads
 
--- src/lib.rt:185:5
 set-head-requires : tie.Need-set-head-requires
 set-head-requires c κs = search needs
 
--- src/lib.rt:186:5
 set-streams-requires : tie.Need-set-streams-requires
 set-streams-requires c κs = search needs
 
--- src/lib.rt:187:5
 set-places-requires : tie.Need-set-places-requires
 set-places-requires c κs = search needs
 
--- src/lib.rt:174:1
 same-length : tie.Need-same-length
 same-length c = search needs
 
--- src/lib.rt:174:1
 returns : tie.Need-returns
 returns c =
     let a = c .before .before .before .before .before .before .before .before .before .before .before .before .before .before .before .args in

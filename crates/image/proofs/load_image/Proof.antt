@@ -1,3 +1,4 @@
+-- `load_image` leaves the sections that the image shows. Assumes nothing.
 use Prim.Native.Nat.{_+_, _*_, _-_}
 use mathlib.Core.Path.{_≡_, ap}
 use native.Mathlib.Omega.{arith}
@@ -7,104 +8,76 @@ use Rattle.image.proofs.Putting.{image-loaded}
 use borrow.Author.Needs.{needs}
 use Rattle.image.proofs.load_image.Statement.{statement}
 use Rattle.image.proofs.load_image.Tie as tie
-use Rattle.image.proofs.load_image.Reads as reads
-use Rattle.image.proofs.load_image.Lts as lts
-use Rattle.image.proofs.load_held.Reads as load-held-reads
-use Rattle.image.proofs.load_records.Reads as load-records-reads
-use Rattle.writes.proofs.unset_records.Reads as unset-records-reads
 
--- src/lib.rt:194:14
 cast-a : tie.Need-cast-a
 cast-a c = search needs
 
--- src/lib.rt:194:13
 mul-a : tie.Need-mul-a
 mul-a c = search needs
 
--- src/lib.rt:195:18
 cast-b : tie.Need-cast-b
 cast-b c = search needs
 
--- src/lib.rt:195:17
 mul-b : tie.Need-mul-b
 mul-b c = search needs
 
--- src/lib.rt:195:13
 add-b : tie.Need-add-b
 add-b c = search needs
 
--- src/lib.rt:196:18
 cast-c : tie.Need-cast-c
 cast-c c = search needs
 
--- src/lib.rt:196:17
 mul-c : tie.Need-mul-c
 mul-c c = search needs
 
--- src/lib.rt:196:13
 add-c : tie.Need-add-c
 add-c c = search needs
 
--- src/lib.rt:197:20
 sub-load-held : tie.Need-sub-load-held
 sub-load-held c = search needs
 
--- src/lib.rt:197:20
 part-load-held-start : tie.Need-part-load-held-start
 part-load-held-start c = search needs
 
--- src/lib.rt:197:20
 part-load-held-end : tie.Need-part-load-held-end
 part-load-held-end c = search needs
 
--- src/lib.rt:197:34
 sub-load-held-2 : tie.Need-sub-load-held-2
 sub-load-held-2 c = search needs
 
--- src/lib.rt:197:34
 part-load-held-start-2 : tie.Need-part-load-held-start-2
 part-load-held-start-2 c = search needs
 
--- src/lib.rt:197:34
 part-load-held-end-2 : tie.Need-part-load-held-end-2
 part-load-held-end-2 c = search needs
 
--- src/lib.rt:197:5
 load-held-requires : tie.Need-load-held-requires
 load-held-requires c κs = search needs
 
--- src/lib.rt:198:5
 unset-records-requires : tie.Need-unset-records-requires
 unset-records-requires c κs = search needs
 
--- src/lib.rt:199:23
 sub-load-records : tie.Need-sub-load-records
 sub-load-records c = search needs
 
--- src/lib.rt:199:23
 part-load-records-start : tie.Need-part-load-records-start
 part-load-records-start c = search needs
 
--- src/lib.rt:199:23
 part-load-records-end : tie.Need-part-load-records-end
 part-load-records-end c = search needs
 
--- src/lib.rt:199:36
 cast-load-records : tie.Need-cast-load-records
 cast-load-records c = search needs
 
--- src/lib.rt:199:5
 load-records-requires : tie.Need-load-records-requires
 load-records-requires c κs =
     let a = c .before .before .before .before .before .before .before .before .before .before .before .before .before .before .before .before .before .before in
     let q = part-from (a .args .image .now) (a .args .t .fragments * 8) in
     (omega arith, rw q (omega (arith, a .pre .1 .long, length-drop (a .args .t .fragments * 8) (a .args .image .now))), rw q (a .pre .1 .small-records))
 
--- src/lib.rt:190:1
 same-length : tie.Need-same-length
 same-length c = search needs
 
--- src/lib.rt:190:1
 returns : tie.Need-returns
 returns c =
     let a = c .before .before .before .before .before .before .before .before .before .before .before .before .before .before .before .before .before .before .before .before .before in

@@ -1,3 +1,4 @@
+-- `load_record` puts one record. Assumes nothing.
 use Prim.Native.Nat.{_*_}
 use native.Mathlib.Omega.{arith}
 use Rattle.judging.proofs.Records.{fragment-at, key-at}
@@ -5,64 +6,46 @@ use Rattle.image.proofs.Putting.{record-put}
 use borrow.Author.Needs.{needs}
 use Rattle.image.proofs.load_record.Statement.{statement}
 use Rattle.image.proofs.load_record.Tie as tie
-use Rattle.image.proofs.load_record.Reads as reads
-use Rattle.image.proofs.load_record.Lts as lts
-use Rattle.wire.proofs.get16.Reads as get16-reads
-use Rattle.wire.proofs.get32.Reads as get32-reads
-use Rattle.writes.proofs.set_record.Reads as set-record-reads
 
--- src/lib.rt:155:28
 mul-fragment : tie.Need-mul-fragment
 mul-fragment c = search needs
 
--- src/lib.rt:155:20
 shared-slice-read-fragment : tie.Need-shared-slice-read-fragment
 shared-slice-read-fragment c = search needs
 
--- src/lib.rt:155:20
 cast-fragment : tie.Need-cast-fragment
 cast-fragment c = omega (arith, c .shared-slice-known2 .given (c .before .before .before .args .j * 8))
 
--- src/lib.rt:156:36
 mul-get16 : tie.Need-mul-get16
 mul-get16 c = search needs
 
--- src/lib.rt:156:36
 add-get16 : tie.Need-add-get16
 add-get16 c = search needs
 
--- src/lib.rt:156:15
 get16-requires : tie.Need-get16-requires
 get16-requires c κs = search needs
 
--- src/lib.rt:156:15
 cast-key : tie.Need-cast-key
 cast-key c = search needs
 
--- src/lib.rt:157:38
 mul-get32 : tie.Need-mul-get32
 mul-get32 c = search needs
 
--- src/lib.rt:157:38
 add-get32 : tie.Need-add-get32
 add-get32 c = search needs
 
--- src/lib.rt:157:9
 get32-requires : tie.Need-get32-requires
 get32-requires c κs = search needs
 
--- src/lib.rt:158:5
 set-record-requires : tie.Need-set-record-requires
 set-record-requires c κs =
     let a = c .before .before .before .before .before .before in
     let r = a .args .records .now in
     (a .pre .0, omega (arith, a .pre .2 .fragment, fragment-at r (a .args .j)), omega (arith, a .pre .2 .key, key-at r (a .args .j), c .before .before .get16 .ensures))
 
--- src/lib.rt:151:1
 same-length : tie.Need-same-length
 same-length c = search needs
 
--- src/lib.rt:151:1
 returns : tie.Need-returns
 returns c =
     let a = c .before .before .before .before .before .before .before .before .before .args in

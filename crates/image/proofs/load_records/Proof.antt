@@ -11,9 +11,6 @@ use Rattle.image.proofs.Putting.{none-put, next-put, all-put}
 use borrow.Author.Needs.{needs}
 use Rattle.image.proofs.load_records.Statement.{statement}
 use Rattle.image.proofs.load_records.Tie as tie
-use Rattle.image.proofs.load_records.Reads as reads
-use Rattle.image.proofs.load_records.Lts as lts
-use Rattle.image.proofs.load_record.Reads as load-record-reads
 
 abbrev Inv-loop : tie.InvT-loop
 Inv-loop lot₀ records n j₀ lot j = (j ≤ n) × (length lot ≡ length lot₀) × WithRecords lot₀ lot (withAll (recordsOf lot₀) (parse (n - j) 8 presentOf (drop (j * 8) records)))
@@ -21,39 +18,32 @@ Inv-loop lot₀ records n j₀ lot j = (j ≤ n) × (length lot ≡ length lot�
 abbrev μ-loop : tie.MeasureT-loop
 μ-loop lot₀ records n j₀ lot j = j
 
--- src/lib.rt:167:5
 loop-holds : tie.Need-loop-holds Inv-loop μ-loop
 loop-holds c =
     let a = c .before .before .args in
     (omega arith, refl, none-put (a .lot .now) (a .records .now) (a .n))
 
--- src/lib.rt:168:9
 sub-j : tie.Need-sub-j Inv-loop μ-loop
 sub-j c = search needs
 
--- src/lib.rt:169:9
 load-record-requires : tie.Need-load-record-requires Inv-loop μ-loop
 load-record-requires c κs =
     let a = c .before .before .before .before .before in
     let l = c .before .before .loop in
     (omega (arith, a .pre .0, l .inv .1), omega (arith, a .pre .1), a .pre .2 (l .j - 1) (omega arith))
 
--- src/lib.rt:167:5
 loop-less : tie.Need-loop-less Inv-loop μ-loop
 loop-less c = search needs
 
--- src/lib.rt:167:5
 loop-again : tie.Need-loop-again Inv-loop μ-loop
 loop-again c =
     let a = c .before .before .before .before .before .before .before .before .args in
     let l = c .before .before .before .before .before .loop in
     (omega arith, omega arith, next-put (a .lot .now) (l .lot) _ (a .records .now) (a .n) (l .j) (omega arith) (l .inv .0) (l .inv .2) (c .before .before .load-record .ensures))
 
--- src/lib.rt:162:1
 same-length : tie.Need-same-length Inv-loop μ-loop
 same-length c = c .before .loop .inv .1
 
--- src/lib.rt:162:1
 returns : tie.Need-returns Inv-loop μ-loop
 returns c =
     let a = c .before .before .before .before .args in

@@ -1,37 +1,28 @@
+-- `save_bytes` writes bytes from an index on. Assumes nothing.
 use native.Mathlib.Omega.{arith}
 use Rattle.image.proofs.Writing.{bytes-part}
 use borrow.Author.Needs.{needs}
 use Rattle.image.proofs.save_bytes.Statement.{statement}
 use Rattle.image.proofs.save_bytes.Tie as tie
-use Rattle.image.proofs.save_bytes.Reads as reads
-use Rattle.image.proofs.save_bytes.Lts as lts
-use Rattle.bytes.proofs.copy.Reads as copy-reads
 
--- src/lib.rt:22:15
 add-end : tie.Need-add-end
 add-end c = search needs
 
--- src/lib.rt:23:23
 sub-copy : tie.Need-sub-copy
 sub-copy c = search needs
 
--- src/lib.rt:23:23
 part-copy-start : tie.Need-part-copy-start
 part-copy-start c = search needs
 
--- src/lib.rt:23:23
 part-copy-end : tie.Need-part-copy-end
 part-copy-end c = search needs
 
--- src/lib.rt:23:5
 copy-requires : tie.Need-copy-requires
 copy-requires c κs = search needs
 
--- src/lib.rt:18:1
 same-length : tie.Need-same-length
 same-length c = search needs
 
--- src/lib.rt:18:1
 returns : tie.Need-returns
 returns c =
     let a = c .before .before .before .before .before .before .args in

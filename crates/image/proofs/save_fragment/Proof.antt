@@ -9,9 +9,6 @@ use Rattle.image.proofs.Writing.{no-key-yet, next-key, few-bytes}
 use borrow.Author.Needs.{needs}
 use Rattle.image.proofs.save_fragment.Statement.{statement}
 use Rattle.image.proofs.save_fragment.Tie as tie
-use Rattle.image.proofs.save_fragment.Reads as reads
-use Rattle.image.proofs.save_fragment.Lts as lts
-use Rattle.image.proofs.save_record.Reads as save-record-reads
 
 abbrev Inv-loop : tie.InvT-loop
 Inv-loop records i keys image₀ at end₀ k₀ image end k = (k ≤ keys) × (end ≤ at + k * 8) × (length image ≡ length image₀) × Written image₀ image at end (fragmentBytes records i k)
@@ -19,25 +16,20 @@ Inv-loop records i keys image₀ at end₀ k₀ image end k = (k ≤ keys) × (e
 abbrev μ-loop : tie.MeasureT-loop
 μ-loop records i keys image₀ at end₀ k₀ image end k = keys - k
 
--- src/lib.rt:157:5
 loop-holds : tie.Need-loop-holds Inv-loop μ-loop
 loop-holds c =
     let a = c .before .before .args in
     (omega arith, omega arith, refl, no-key-yet (a .records .now) (a .image .now) (a .at) (omega arith) (a .i))
 
--- src/lib.rt:158:9
 save-record-requires : tie.Need-save-record-requires Inv-loop μ-loop
 save-record-requires c κs = search needs
 
--- src/lib.rt:159:9
 add-k : tie.Need-add-k Inv-loop μ-loop
 add-k c = search needs
 
--- src/lib.rt:157:5
 loop-less : tie.Need-loop-less Inv-loop μ-loop
 loop-less c = search needs
 
--- src/lib.rt:157:5
 loop-again : tie.Need-loop-again Inv-loop μ-loop
 loop-again c =
     let a = c .before .before .before .before .before .before .before .before .args in
@@ -45,11 +37,9 @@ loop-again c =
     let s = c .before .before .save-record in
     (omega arith, omega (arith, few-bytes (a .i) (l .k) (recordAt (a .records .now) (a .i) (l .k)) (s .ensures)), omega arith, next-key (a .records .now) (a .image .now) (a .at) (omega arith) (a .i) (l .k) (l .inv .3) (s .ensures))
 
--- src/lib.rt:151:1
 same-length : tie.Need-same-length Inv-loop μ-loop
 same-length c = c .before .loop .inv .2
 
--- src/lib.rt:151:1
 returns : tie.Need-returns Inv-loop μ-loop
 returns c =
     let l = c .before .loop in

@@ -8,9 +8,6 @@ use Rattle.image.proofs.Writing.{no-fragment-yet, next-fragment}
 use borrow.Author.Needs.{needs}
 use Rattle.image.proofs.save_records.Statement.{statement}
 use Rattle.image.proofs.save_records.Tie as tie
-use Rattle.image.proofs.save_records.Reads as reads
-use Rattle.image.proofs.save_records.Lts as lts
-use Rattle.image.proofs.save_fragment.Reads as save-fragment-reads
 
 abbrev Inv-loop : tie.InvT-loop
 Inv-loop records keys fragments image₀ at end₀ i₀ image end i = (i ≤ fragments) × (end ≤ at + i * 1024) × (length image ≡ length image₀) × Written image₀ image at end (recordBytes records keys i)
@@ -18,25 +15,20 @@ Inv-loop records keys fragments image₀ at end₀ i₀ image end i = (i ≤ fra
 abbrev μ-loop : tie.MeasureT-loop
 μ-loop records keys fragments image₀ at end₀ i₀ image end i = fragments - i
 
--- src/lib.rt:77:5
 loop-holds : tie.Need-loop-holds Inv-loop μ-loop
 loop-holds c =
     let a = c .before .before .args in
     (omega arith, omega arith, refl, no-fragment-yet (a .records .now) (a .image .now) (a .at) (omega arith) (a .keys))
 
--- src/lib.rt:78:9
 save-fragment-requires : tie.Need-save-fragment-requires Inv-loop μ-loop
 save-fragment-requires c κs = search needs
 
--- src/lib.rt:79:9
 add-i : tie.Need-add-i Inv-loop μ-loop
 add-i c = search needs
 
--- src/lib.rt:77:5
 loop-less : tie.Need-loop-less Inv-loop μ-loop
 loop-less c = search needs
 
--- src/lib.rt:77:5
 loop-again : tie.Need-loop-again Inv-loop μ-loop
 loop-again c =
     let a = c .before .before .before .before .before .before .before .before .args in
@@ -44,11 +36,9 @@ loop-again c =
     let s = c .before .before .save-fragment in
     (omega arith, omega (arith, s .ensures .1), omega arith, next-fragment (a .records .now) (a .image .now) (a .at) (omega arith) (a .keys) (l .i) (l .inv .3) (s .ensures .0))
 
--- src/lib.rt:71:1
 same-length : tie.Need-same-length Inv-loop μ-loop
 same-length c = c .before .loop .inv .2
 
--- src/lib.rt:71:1
 returns : tie.Need-returns Inv-loop μ-loop
 returns c =
     let l = c .before .loop in

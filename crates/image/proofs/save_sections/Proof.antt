@@ -1,30 +1,22 @@
+-- `save_sections` writes the sections one after the other. Assumes nothing.
 use native.Mathlib.Omega.{arith}
 use Rattle.image.proofs.Saved.{sections-written}
 use borrow.Author.Needs.{needs}
 use Rattle.image.proofs.save_sections.Statement.{statement}
 use Rattle.image.proofs.save_sections.Tie as tie
-use Rattle.image.proofs.save_sections.Reads as reads
-use Rattle.image.proofs.save_sections.Lts as lts
-use Rattle.image.proofs.save_bytes.Reads as save-bytes-reads
-use Rattle.image.proofs.save_records.Reads as save-records-reads
 
--- src/lib.rt:96:9
 save-bytes-requires : tie.Need-save-bytes-requires
 save-bytes-requires c κs = search needs
 
--- src/lib.rt:97:9
 save-records-requires : tie.Need-save-records-requires
 save-records-requires c κs = search needs
 
--- src/lib.rt:98:5
 save-bytes-requires-2 : tie.Need-save-bytes-requires-2
 save-bytes-requires-2 c κs = search needs
 
--- src/lib.rt:85:1
 same-length : tie.Need-same-length
 same-length c = search needs
 
--- src/lib.rt:85:1
 returns : tie.Need-returns
 returns c =
     let u = c .before .before .before .before .before .before .before .before .before .before .save-bytes .ensures in

@@ -1,31 +1,22 @@
-use mathlib.Core.Path.{_≡_}
+-- `write_record` leaves the bytes of a record. Assumes nothing.
 use native.Mathlib.Omega.{arith}
 use Rattle.image.proofs.Writing.{record-written}
 use borrow.Author.Needs.{needs}
 use Rattle.image.proofs.write_record.Statement.{statement}
 use Rattle.image.proofs.write_record.Tie as tie
-use Rattle.image.proofs.write_record.Reads as reads
-use Rattle.image.proofs.write_record.Lts as lts
-use Rattle.wire.proofs.put16.Reads as put16-reads
-use Rattle.wire.proofs.put32.Reads as put32-reads
 
--- src/lib.rt:128:5
 put16-requires : tie.Need-put16-requires
 put16-requires c κs = search needs
 
--- src/lib.rt:129:5
 put16-requires-2 : tie.Need-put16-requires-2
 put16-requires-2 c κs = search needs
 
--- src/lib.rt:130:5
 put32-requires : tie.Need-put32-requires
 put32-requires c κs = search needs
 
--- src/lib.rt:124:1
 same-length : tie.Need-same-length
 same-length c = search needs
 
--- src/lib.rt:124:1
 returns : tie.Need-returns
 returns c =
     let a = c .before .before .before .before .before .before .before .before .before .before .before .before .before .args in

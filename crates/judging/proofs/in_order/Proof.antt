@@ -1,32 +1,25 @@
-use mathlib.Core.Path.{_≡_, sym}
+-- `in_order` compares a record with the one before it. Assumes nothing.
+use mathlib.Core.Path.{sym}
 use native.Mathlib.Omega.{arith}
 use Rattle.judging.specs.Judging.{inOrder}
 use Rattle.judging.proofs.Records.{order-at}
 use borrow.Author.Needs.{needs}
 use Rattle.judging.proofs.in_order.Statement.{statement}
 use Rattle.judging.proofs.in_order.Tie as tie
-use Rattle.judging.proofs.in_order.Reads as reads
-use Rattle.judging.proofs.in_order.Lts as lts
-use Rattle.judging.proofs.place_at.Reads as place-at-reads
 
--- src/lib.rt:29:9
 returns : tie.Need-returns
 unfolding inOrder
 returns c = rw (c .if1 .taken)
 
--- src/lib.rt:31:23
 sub-place-at : tie.Need-sub-place-at
 sub-place-at c = search needs
 
--- src/lib.rt:31:5
 place-at-requires : tie.Need-place-at-requires
 place-at-requires c κs = search needs
 
--- src/lib.rt:31:32
 place-at-requires-2 : tie.Need-place-at-requires-2
 place-at-requires-2 c κs = search needs
 
--- src/lib.rt:24:1
 returns-2 : tie.Need-returns-2
 returns-2 c =
     let a = c .before .before .before .before .args in

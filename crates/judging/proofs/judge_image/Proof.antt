@@ -1,86 +1,64 @@
-use mathlib.Core.Path.{_≡_, sym, _∙_}
+-- `judge_image` answers what the model's load does. Assumes nothing.
+use mathlib.Core.Path.{sym, _∙_}
 use native.Mathlib.Omega.{arith}
 use borrow.Author.Tests.{not-true, not-false}
 use Rattle.judging.proofs.Passing.{too-short, not-signed, trailer-unfit, limits, sections-unfit, all-pass}
 use borrow.Author.Needs.{needs}
 use Rattle.judging.proofs.judge_image.Statement.{statement}
 use Rattle.judging.proofs.judge_image.Tie as tie
-use Rattle.judging.proofs.judge_image.Reads as reads
-use Rattle.judging.proofs.judge_image.Lts as lts
-use Rattle.judging.proofs.sections_fit.Reads as sections-fit-reads
-use Rattle.trailer.proofs.Trailer.read.Reads as read-reads
-use Rattle.trailer.proofs.is_signed.Reads as is-signed-reads
-use Rattle.trailer.proofs.trailer_fits.Reads as trailer-fits-reads
 
--- src/lib.rt:90:9
 returns : tie.Need-returns
 returns c = too-short _ (c .if1 .taken)
 
--- src/lib.rt:92:16
 sub-last : tie.Need-sub-last
 sub-last c = search needs
 
--- src/lib.rt:92:16
 part-last-start : tie.Need-part-last-start
 part-last-start c = search needs
 
--- src/lib.rt:92:16
 part-last-end : tie.Need-part-last-end
 part-last-end c = search needs
 
--- src/lib.rt:93:9
 is-signed-requires : tie.Need-is-signed-requires
 is-signed-requires c κs = search needs
 
--- src/lib.rt:94:9
 returns-2 : tie.Need-returns-2
 returns-2 c = not-signed _ (sym (c .before .is-signed .ensures) ∙ not-true _ (c .if2 .taken))
 
--- src/lib.rt:96:9
 trailer-fits-requires : tie.Need-trailer-fits-requires
 trailer-fits-requires c κs = search needs
 
--- src/lib.rt:97:9
 returns-3 : tie.Need-returns-3
 returns-3 c = trailer-unfit _ (sym (c .before .trailer-fits .ensures) ∙ not-true _ (c .if3 .taken))
 
--- src/lib.rt:99:9
 read-requires : tie.Need-read-requires
 read-requires c κs = search needs
 
--- src/lib.rt:100:33
 cast-sections-fit : tie.Need-cast-sections-fit
 cast-sections-fit c = search needs
 
--- src/lib.rt:100:28
 sub-sections-fit : tie.Need-sub-sections-fit
 sub-sections-fit c = limits (c .before .before .before .before .before .before .before .before .before .args .«data» .now) _ (c .before .read .ensures) (sym (c .before .before .before .trailer-fits .ensures) ∙ not-false _ (c .before .before .if3 .left)) .0
 
--- src/lib.rt:100:22
 sub-sections-fit-2 : tie.Need-sub-sections-fit-2
 sub-sections-fit-2 c = search needs
 
--- src/lib.rt:100:22
 part-sections-fit-start : tie.Need-part-sections-fit-start
 part-sections-fit-start c = search needs
 
--- src/lib.rt:100:22
 part-sections-fit-end : tie.Need-part-sections-fit-end
 part-sections-fit-end c = search needs
 
--- src/lib.rt:100:9
 sections-fit-requires : tie.Need-sections-fit-requires
 sections-fit-requires c κs =
     let l = limits (c .before .before .before .before .before .before .before .before .before .before .args .«data» .now) _ (c .before .before .read .ensures) (sym (c .before .before .before .before .trailer-fits .ensures) ∙ not-false _ (c .before .before .before .if3 .left)) in
     (l .1, l .2)
 
--- src/lib.rt:101:9
 returns-4 : tie.Need-returns-4
 returns-4 c = sections-unfit (c .before .before .before .before .before .before .before .before .before .before .before .before .args .«data» .now) _ (c .before .before .before .before .read .ensures) (sym (c .before .sections-fit .ensures) ∙ not-true _ (c .if4 .taken))
 
--- src/lib.rt:85:1
 returns-5 : tie.Need-returns-5
-returns-5 c = 
+returns-5 c =
     let r = c .before .before .before .before in
     all-pass (c .before .before .before .before .before .before .before .before .before .before .before .before .args .«data» .now) _ (r .read .ensures) (λ i. omega (arith, c .before .before .before .before .before .before .before .before .before .before .before .shared-slice-known .given i)) (c .before .before .before .before .before .before .before .before .before .before .if1 .left)
     (sym (c .before .before .before .before .before .before .before .before .is-signed .ensures) ∙ not-false _ (c .before .before .before .before .before .before .before .if2 .left))

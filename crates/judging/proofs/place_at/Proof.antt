@@ -1,38 +1,28 @@
+-- `place_at` answers the place of a record. Assumes nothing.
 use mathlib.Core.Path.{_∙_}
 use Rattle.judging.proofs.Records.{place-at}
 use borrow.Author.Needs.{needs}
 use Rattle.judging.proofs.place_at.Statement.{statement}
 use Rattle.judging.proofs.place_at.Tie as tie
-use Rattle.judging.proofs.place_at.Reads as reads
-use Rattle.judging.proofs.place_at.Lts as lts
-use Rattle.judging.proofs.place_of.Reads as place-of-reads
-use Rattle.wire.proofs.get16.Reads as get16-reads
 
--- src/lib.rt:26:22
 mul-place-of : tie.Need-mul-place-of
 mul-place-of c = search needs
 
--- src/lib.rt:26:14
 shared-slice-read-place-of : tie.Need-shared-slice-read-place-of
 shared-slice-read-place-of c = search needs
 
--- src/lib.rt:26:51
 mul-get16 : tie.Need-mul-get16
 mul-get16 c = search needs
 
--- src/lib.rt:26:51
 add-get16 : tie.Need-add-get16
 add-get16 c = search needs
 
--- src/lib.rt:26:30
 get16-requires : tie.Need-get16-requires
 get16-requires c κs = search needs
 
--- src/lib.rt:26:5
 place-of-requires : tie.Need-place-of-requires
 place-of-requires c κs = search needs
 
--- src/lib.rt:22:1
 returns : tie.Need-returns
 returns c = c .place-of .ensures ∙ place-at _ _ _ (c .before .get16 .ensures)
 

@@ -1,7 +1,6 @@
 -- `records_fit` tests each record below n. The invariant: the answer so far is that of the records below i. Assumes nothing.
 use Prim.Native.Nat.{_≤_, _-_}
 use mathlib.Core.Path.{_≡_, refl}
-use mathlib.Core.Bool.{_&&_}
 use native.Mathlib.Numerals.{add-one}
 use native.Mathlib.Omega.{arith}
 use Rattle.lot.specs.View.{allBelow}

@@ -1,82 +1,60 @@
+-- `sections_fit` is the test of the three sections. Assumes nothing.
 use Rattle.judging.proofs.Passing.{sections-law}
 use borrow.Author.Needs.{needs}
 use Rattle.judging.proofs.sections_fit.Statement.{statement}
 use Rattle.judging.proofs.sections_fit.Tie as tie
-use Rattle.judging.proofs.sections_fit.Reads as reads
-use Rattle.judging.proofs.sections_fit.Lts as lts
-use Rattle.held.proofs.section_fits.Reads as section-fits-reads
-use Rattle.judging.proofs.records_fit.Reads as records-fit-reads
-use Rattle.lot.proofs.streams_fit.Reads as streams-fit-reads
 
--- src/lib.rt:71:14
 cast-a : tie.Need-cast-a
 cast-a c = search needs
 
--- src/lib.rt:71:13
 mul-a : tie.Need-mul-a
 mul-a c = search needs
 
--- src/lib.rt:72:18
 cast-b : tie.Need-cast-b
 cast-b c = search needs
 
--- src/lib.rt:72:17
 mul-b : tie.Need-mul-b
 mul-b c = search needs
 
--- src/lib.rt:72:13
 add-b : tie.Need-add-b
 add-b c = search needs
 
--- src/lib.rt:73:29
 cast-streams-fit : tie.Need-cast-streams-fit
 cast-streams-fit c = search needs
 
--- src/lib.rt:73:5
 streams-fit-requires : tie.Need-streams-fit-requires
 streams-fit-requires c κs = search needs
 
--- src/lib.rt:74:23
 sub-records-fit : tie.Need-sub-records-fit
 sub-records-fit c = search needs
 
--- src/lib.rt:74:23
 part-records-fit-start : tie.Need-part-records-fit-start
 part-records-fit-start c = search needs
 
--- src/lib.rt:74:23
 part-records-fit-end : tie.Need-part-records-fit-end
 part-records-fit-end c = search needs
 
--- src/lib.rt:74:36
 cast-records-fit : tie.Need-cast-records-fit
 cast-records-fit c = search needs
 
--- src/lib.rt:74:11
 records-fit-requires : tie.Need-records-fit-requires
 records-fit-requires c κs = search needs
 
--- src/lib.rt:75:37
 sub-section-fits : tie.Need-sub-section-fits
 sub-section-fits c = search needs
 
--- src/lib.rt:75:37
 part-section-fits-start : tie.Need-part-section-fits-start
 part-section-fits-start c = search needs
 
--- src/lib.rt:75:37
 part-section-fits-end : tie.Need-part-section-fits-end
 part-section-fits-end c = search needs
 
--- src/lib.rt:75:81
 cast-section-fits : tie.Need-cast-section-fits
 cast-section-fits c = search needs
 
--- src/lib.rt:75:11
 section-fits-requires : tie.Need-section-fits-requires
 section-fits-requires c κs = search needs
 
--- src/lib.rt:67:1
 returns : tie.Need-returns
 returns c =
     let a = c .before .before .before .before .before .before .before .before .before .before .before .args in

@@ -1,32 +1,24 @@
+-- `set_places` overwrites the first bytes of the places, and the other sections stay. Assumes nothing.
 use Rattle.writes.proofs.Overwriting.{places-overwritten}
 use borrow.Author.Needs.{needs}
 use Rattle.writes.proofs.set_places.Statement.{statement}
 use Rattle.writes.proofs.set_places.Tie as tie
-use Rattle.writes.proofs.set_places.Reads as reads
-use Rattle.writes.proofs.set_places.Lts as lts
-use Rattle.bytes.proofs.copy.Reads as copy-reads
 
--- src/lib.rt:60:23
 sub-copy : tie.Need-sub-copy
 sub-copy c = search needs
 
--- src/lib.rt:60:23
 part-copy-start : tie.Need-part-copy-start
 part-copy-start c = search needs
 
--- src/lib.rt:60:23
 part-copy-end : tie.Need-part-copy-end
 part-copy-end c = search needs
 
--- src/lib.rt:60:5
 copy-requires : tie.Need-copy-requires
 copy-requires c κs = search needs
 
--- src/lib.rt:56:1
 same-length : tie.Need-same-length
 same-length c = search needs
 
--- src/lib.rt:56:1
 returns : tie.Need-returns
 returns c =
     let a = c .before .before .before .before .before .before in

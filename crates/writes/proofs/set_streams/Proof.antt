@@ -1,32 +1,24 @@
+-- `set_streams` overwrites the first bytes of the streams, and the other sections stay. Assumes nothing.
 use Rattle.writes.proofs.Overwriting.{streams-overwritten}
 use borrow.Author.Needs.{needs}
 use Rattle.writes.proofs.set_streams.Statement.{statement}
 use Rattle.writes.proofs.set_streams.Tie as tie
-use Rattle.writes.proofs.set_streams.Reads as reads
-use Rattle.writes.proofs.set_streams.Lts as lts
-use Rattle.bytes.proofs.copy.Reads as copy-reads
 
--- src/lib.rt:53:23
 sub-copy : tie.Need-sub-copy
 sub-copy c = search needs
 
--- src/lib.rt:53:23
 part-copy-start : tie.Need-part-copy-start
 part-copy-start c = search needs
 
--- src/lib.rt:53:23
 part-copy-end : tie.Need-part-copy-end
 part-copy-end c = search needs
 
--- src/lib.rt:53:5
 copy-requires : tie.Need-copy-requires
 copy-requires c κs = search needs
 
--- src/lib.rt:49:1
 same-length : tie.Need-same-length
 same-length c = search needs
 
--- src/lib.rt:49:1
 returns : tie.Need-returns
 returns c =
     let a = c .before .before .before .before .before .before in
