@@ -60,7 +60,7 @@ judged-count : (o : Outcome) (n count : ℕ) → closeJudged o n ≡ Pieces coun
 judged-count Done n count e = cc
 judged-count (Refused r) n count e = no-way cc
 
-same-fit : (m m' : List ℕ) → length m' ≡ length m → lotFits 1 0 m' ≡ lotFits 1 0 m
+pub same-fit : (m m' : List ℕ) → length m' ≡ length m → lotFits 1 0 m' ≡ lotFits 1 0 m
 unfolding lotFits memoryFits
 same-fit m m' e = rw e
 
