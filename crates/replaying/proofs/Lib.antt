@@ -1,0 +1,4 @@
+pub mod Printing
+pub mod Closes
+pub mod Records
+pub mod Steps
