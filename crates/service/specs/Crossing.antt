@@ -7,9 +7,9 @@ use Rattle.wire.specs.Numbers.{bytes32}
 use Rattle.model.specs.Image.{each}
 use Rattle.model.specs.declared.Closed.{Closed}
 use Rattle.model.specs.declared.Outcome.{Outcome}
-use Rattle.standby.specs.Calls.{Overviewed}
+use Rattle.overview.specs.Overview.{Overviewed}
 use Rattle.standby.specs.Closing.{EpochClosed}
-use Rattle.standby.specs.declared.Row.{Row}
+use Rattle.overview.specs.declared.Row.{Row}
 
 -- The lent bytes b are the list, `size` bytes for each of it, and then odd bytes, too few for one more. The call does with
 -- the list what it owes, and the bytes b' left are the list then, and the same odd bytes.

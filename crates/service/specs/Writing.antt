@@ -8,8 +8,8 @@ use Rattle.model.specs.Lists.{if_then_else_, upward}
 use Rattle.model.specs.Image.{each}
 use Rattle.model.specs.declared.Closed.{Closed}
 use Rattle.model.specs.declared.Closed.the-variants.{Pieces, NotClosed}
-use Rattle.standby.specs.Calls.{rowAt}
-use Rattle.standby.specs.declared.Row.{Row}
+use Rattle.overview.specs.Overview.{rowAt}
+use Rattle.overview.specs.declared.Row.{Row}
 
 -- the bytes b with those of xs at their front, `size` for each
 abbrev pub inFront : {X : Type 0} → (X → List ℕ) → ℕ → List X → List ℕ → List ℕ

@@ -14,7 +14,7 @@ use model::Found;
 use model::Opened;
 use model::Outcome;
 use model::Refusal;
-use standby::Row;
+use overview::Row;
 
 // ---- an answer as one number
 
@@ -190,7 +190,7 @@ fn put_rows(memory: &[u8], lots: u32, bytes: &mut [u8], n: usize)
 {
     let mut i: usize = 0;
     while i < n {
-        put_row(bytes, i, standby::row_at(memory, lots, i as u32));
+        put_row(bytes, i, overview::row_at(memory, lots, i as u32));
         i += 1;
     }
 }
@@ -200,6 +200,6 @@ pub extern "C" fn standby_overview(memory: &[u8], lots: u32, rows: &mut [u8]) ->
     ensures { λ r. ⌜ Answered outcomeNumbers (RowsFilled (now (memory .entry)) lots (now (rows .entry)) (now (rows .exit))) r ⌝ }
 {
     let lent = rows.len() / 16;
-    put_rows(memory, lots, rows, standby::rows_due(memory, lots, lent));
-    of_outcome(standby::overview_answer(memory, lots, lent))
+    put_rows(memory, lots, rows, overview::rows_due(memory, lots, lent));
+    of_outcome(overview::overview_answer(memory, lots, lent))
 }

@@ -7,11 +7,11 @@ use native.Mathlib.Omega.{arith}
 use native.Mathlib.Decide.{decLt}
 use lib.Dec.{ltb}
 use lib.ListN.{length}
-use borrow.Author.Tests.{leb-true, ltb-true, lt-ltb, le-ltb}
+use borrow.Author.Tests.{leb-true, ltb-true}
 use Rattle.model.specs.Lists.{if_then_else_}
 use Rattle.model.specs.Account.{Account, accountFits, MOST-FRAGMENTS, MOST-KEYS}
 use Rattle.model.specs.declared.Refusal.{Refusal}
-use Rattle.model.specs.declared.Refusal.the-variants.{NoSuchLot, Damaged, NotThisAccount, OutsideAccount, AlreadyOpen, NoFreeLot, UnfitAccount, TooShort}
+use Rattle.model.specs.declared.Refusal.the-variants.{NoSuchLot, Damaged, NotThisAccount, OutsideAccount, AlreadyOpen, NoFreeLot, UnfitAccount}
 use Rattle.model.specs.declared.Outcome.the-variants.{Done, Refused}
 use Rattle.model.specs.declared.Opened.{Opened}
 use Rattle.model.specs.declared.Opened.the-variants.{InLot, NotOpened}
@@ -23,13 +23,13 @@ use Rattle.lot.specs.Writing.{foundOf}
 use Rattle.lot.specs.declared.Account as numbers
 use Rattle.lot.specs.declared.Look.{Look}
 use Rattle.lot.proofs.Views.{holds-shown}
-use Rattle.standby.specs.Memory.{memoryFits, lotFits, lotOf, viewOf, Becomes, named, isFree, isDamaged, isOf, someBelow, lowestBelow}
-use Rattle.standby.specs.Looks.{lookFrom, looksDamaged, looksOf, rowFrom, findingOf, surveyOf, placeIn}
-use Rattle.standby.specs.Calls.{startAnswer, AllFree, Started, placeFor, openAnswer, readAnswer, dropFrom, dropAnswer, Dropped, rowOf, overviewAnswer}
-use Rattle.standby.specs.declared.Finding.the-variants as finding
-use Rattle.standby.proofs.Parts.{memory-long, lot-inside, others-stay}
-use Rattle.standby.proofs.Lowest.{lowest}
-use Rattle.standby.proofs.Named.{finding-refused, finding-found, FoundHere, held-fits}
+use Rattle.lots.specs.Memory.{memoryFits, lotFits, lotOf, viewOf, Becomes, named, isFree, isDamaged, isOf, someBelow, lowestBelow}
+use Rattle.lots.specs.Looks.{lookFrom, looksDamaged, looksOf, findingOf, surveyOf, placeIn}
+use Rattle.standby.specs.Calls.{startAnswer, AllFree, Started, placeFor, openAnswer, readAnswer, dropFrom, dropAnswer, Dropped}
+use Rattle.lots.specs.declared.Finding.the-variants as finding
+use Rattle.lots.proofs.Parts.{memory-long, lot-inside, others-stay}
+use Rattle.lots.proofs.Lowest.{lowest}
+use Rattle.lots.proofs.Named.{finding-refused, finding-found, FoundHere, held-fits}
 
 -- ---- start
 
@@ -165,24 +165,3 @@ module _ (m : List ℕ) (lots lot number : ℕ) where
 
     pub drop-done : {m' : List ℕ} → (b || c) ≡ true → Becomes lot m m' free → Dropped m m' lots lot number Done
     drop-done e w = record { answer = sym (judged ∙ rw e); freed = w }
-
--- ---- the overview
-
-pub row-is : (v : Lot) → rowFrom (lookFrom v) ≡ rowOf v
-row-is free = refl
-row-is damaged = refl
-row-is (holds a) = refl
-
-module _ (m : List ℕ) (lots n : ℕ) where
-  pub overview-nowhere : memoryFits lots m ≡ false → Refused NoSuchLot ≡ overviewAnswer m lots n
-  unfolding overviewAnswer
-  overview-nowhere e = rw e
-
-  module _ (there : memoryFits lots m ≡ true) where
-    pub overview-short : n < lots → Refused TooShort ≡ overviewAnswer m lots n
-    unfolding overviewAnswer
-    overview-short h = rw (there, lt-ltb n lots h)
-
-    pub overview-done : lots ≤ n → Done ≡ overviewAnswer m lots n
-    unfolding overviewAnswer
-    overview-done h = rw (there, le-ltb n lots h)

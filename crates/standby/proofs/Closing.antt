@@ -12,9 +12,9 @@ use Rattle.model.specs.declared.Closed.the-variants.{Pieces, NotClosed}
 use Rattle.lot.specs.Layout.{SIZE}
 use Rattle.lot.specs.View.{Lot, free, damaged, holds}
 use Rattle.closing.specs.Closing.{closeOf, answerOf, Left, LotClosed}
-use Rattle.standby.specs.Memory.{lotFits, viewOf, accountIn, refused, found, named}
+use Rattle.lots.specs.Memory.{lotFits, viewOf, accountIn, refused, found, named}
 use Rattle.standby.specs.Closing.{closeFrom, closeAnswer, ClosedAs, EpochClosed}
-use Rattle.standby.proofs.Parts.{part, part-is, left, lent}
+use Rattle.lots.proofs.Parts.{part, part-is, left, lent}
 
 answers-alike : (v : Lot) (number room : ℕ) → answerOf v number room ≡ closeFrom (accountIn v number) room
 answers-alike free number room = refl

@@ -14,9 +14,9 @@ use Rattle.lot.specs.Layout.{SIZE}
 use Rattle.lot.specs.View.{Lot, free, damaged, holds}
 use Rattle.taking.specs.Delivering as taking
 use Rattle.taking.specs.Delivering.{answerOf, Left}
-use Rattle.standby.specs.Memory.{lotFits, viewOf, accountIn, refused, found, named}
+use Rattle.lots.specs.Memory.{lotFits, viewOf, accountIn, refused, found, named}
 use Rattle.standby.specs.Calls.{deliverTo, deliverAnswer, TakenBy, Delivered}
-use Rattle.standby.proofs.Parts.{part, part-is, left, lent}
+use Rattle.lots.proofs.Parts.{part, part-is, left, lent}
 
 answers-alike : (v : Lot) (number : ℕ) (bytes : List ℕ) → answerOf v number bytes ≡ deliverTo (accountIn v number) bytes
 answers-alike free number bytes = refl

@@ -1,4 +1,4 @@
--- Each contract determines what its call owes: two results that satisfy it are equal in the answer, in the named account, in every byte outside the lot, and in the rows. Assumes nothing.
+-- Each contract determines what its call owes: two results that satisfy it are equal in the answer, in the named account and in every byte outside the lot. Assumes nothing.
 use Prim.Native.Nat.{ℕ, _<_}
 use mathlib.Core.Path.{_≡_, refl, sym, _∙_}
 use mathlib.Core.List.{List}
@@ -11,10 +11,9 @@ use Rattle.model.specs.declared.Opened.{Opened}
 use Rattle.model.specs.declared.Opened.the-variants.{InLot, NotOpened}
 use Rattle.model.proofs.Tests.{no-way}
 use Rattle.lot.specs.View.{Lot}
-use Rattle.standby.specs.Memory.{viewOf, OnlyLot, Becomes, Named, refused, found, named}
-use Rattle.standby.specs.Calls.{FreedAll, Started, OpenedAs, AccountOpened, deliverTo, deliverAnswer, TakenBy, Delivered, Freed, Dropped, Overviewed}
-use Rattle.standby.specs.declared.Row.{Row}
-use Rattle.standby.proofs.Named.{holder}
+use Rattle.lots.specs.Memory.{viewOf, OnlyLot, Becomes, Named, refused, found, named}
+use Rattle.standby.specs.Calls.{FreedAll, Started, OpenedAs, AccountOpened, deliverTo, deliverAnswer, TakenBy, Delivered, Freed, Dropped}
+use Rattle.lots.proofs.Named.{holder}
 
 -- two memories have the same bytes outside lot i, and the same account there
 abbrev pub Alike : ℕ → List ℕ → List ℕ → Type 0
@@ -71,6 +70,3 @@ module _ {m m₁ m₂ : List ℕ} where
       go : (r : Outcome) → Freed m m₁ lot r → Freed m m₂ lot r → SameAfter lot r m₁ m₂
       go Done u w = both-become u w
       go (Refused r) u w = w ∙ sym u
-
-pub overviewed-same : {m : List ℕ} {lots : ℕ} {rows rows₁ rows₂ : List Row} {r₁ r₂ : Outcome} → Overviewed m lots rows rows₁ r₁ → Overviewed m lots rows rows₂ r₂ → (r₂ ≡ r₁) × (rows₂ ≡ rows₁)
-overviewed-same u w = let e = w .answer ∙ sym (u .answer) in (e, (rw e at (w .filled)) ∙ sym (u .filled))

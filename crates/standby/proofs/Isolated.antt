@@ -10,9 +10,9 @@ use Rattle.model.specs.declared.Opened.{Opened}
 use Rattle.model.specs.declared.Opened.the-variants.{InLot, NotOpened}
 use Rattle.model.proofs.Tests.{no-way}
 use Rattle.lot.specs.View.{viewLot, holds}
-use Rattle.standby.specs.Memory.{memoryFits, lotFits, lotOf, viewOf, named, isFree}
+use Rattle.lots.specs.Memory.{memoryFits, lotFits, lotOf, viewOf, named, isFree}
 use Rattle.standby.specs.Calls.{OpenedAs, openAnswer, AccountOpened, deliverAnswer, TakenBy, Delivered, readAnswer, dropAnswer, Freed, Dropped}
-use Rattle.standby.proofs.Parts.{others-stay}
+use Rattle.lots.proofs.Parts.{others-stay}
 use Rattle.standby.proofs.Calls.{opening}
 
 -- two memories that both fit, or both do not, and that agree on one lot

@@ -1,10 +1,5 @@
-pub mod Parts
-pub mod Lowest
-pub mod Looks
-pub mod Named
 pub mod Calls
 pub mod Delivering
 pub mod Closing
-pub mod Rows
 pub mod Determined
 pub mod Isolated

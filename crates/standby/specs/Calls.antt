@@ -1,15 +1,15 @@
 -- What each call owes: its answer, the named account afterwards, and that every other byte stays. A call is a relation between the lent memory before it (m) and after it (m').
-use Prim.Native.Nat.{ℕ, _+_, _<_}
+use Prim.Native.Nat.{ℕ, _<_}
 use mathlib.Core.Path.{_≡_}
 use mathlib.Core.Bool.{not, _&&_}
-use mathlib.Core.List.{List, [], _∷_, _++_}
+use mathlib.Core.List.{List}
 use lib.Dec.{ltb, eqb}
 use lib.ListN.{length, drop}
-use Rattle.model.specs.Lists.{if_then_else_, upward}
+use Rattle.model.specs.Lists.{if_then_else_}
 use Rattle.model.specs.Entry.{entryOf}
-use Rattle.model.specs.Account.{Account, accountFits, fresh, heldCount}
+use Rattle.model.specs.Account.{Account, accountFits, fresh}
 use Rattle.model.specs.Taking.{judge, taken}
-use Rattle.model.specs.declared.Refusal.the-variants.{NoSuchLot, Damaged, NotThisAccount, OutsideAccount, AlreadyOpen, NoFreeLot, UnfitAccount, TooShort}
+use Rattle.model.specs.declared.Refusal.the-variants.{NoSuchLot, Damaged, NotThisAccount, OutsideAccount, AlreadyOpen, NoFreeLot, UnfitAccount}
 use Rattle.model.specs.declared.Outcome.{Outcome}
 use Rattle.model.specs.declared.Outcome.the-variants.{Done, Refused}
 use Rattle.model.specs.declared.Opened.{Opened}
@@ -18,8 +18,7 @@ use Rattle.model.specs.declared.Found.{Found}
 use Rattle.model.specs.declared.Found.the-variants.{NotRead}
 use Rattle.lot.specs.View.{Lot, free, damaged, holds}
 use Rattle.lot.specs.Writing.{foundOf}
-use Rattle.standby.specs.Memory.{memoryFits, lotFits, viewOf, OnlyLot, Becomes, Named, refused, found, named, isDamaged, isFree, isOf, someBelow, lowestBelow}
-use Rattle.standby.specs.declared.Row.{Row}
+use Rattle.lots.specs.Memory.{memoryFits, lotFits, viewOf, OnlyLot, Becomes, Named, refused, found, named, isDamaged, isFree, isOf, someBelow, lowestBelow}
 
 -- ---- start: 1
 
@@ -111,33 +110,3 @@ Freed m m' lot (Refused r) = m' ≡ m
 pub record Dropped (m m' : List ℕ) (lots lot number : ℕ) (r : Outcome) : Type 0 where
   pub answer : r ≡ dropAnswer m lots lot number
   pub freed : Freed m m' lot r
-
--- ---- the overview: 1, 16; account, closed epoch, held count and damage of each lot
-
-abbrev pub rowOf : Lot → Row
-rowOf free = record { account = 0; closed = 0; held = 0; damaged = 0 }
-rowOf damaged = record { account = 0; closed = 0; held = 0; damaged = 1 }
-rowOf (holds a) = record { account = a .number; closed = a .closed; held = heldCount a; damaged = 0 }
-
--- the row of one lot, and that of a free one where there is no such lot
-unfoldable pub rowAt : List ℕ → ℕ → ℕ → Row
-rowAt m lots lot = if lotFits lots lot m then rowOf (viewOf m lot) else rowOf free
-
--- n: how many rows are lent
-unfoldable pub overviewAnswer : List ℕ → ℕ → ℕ → Outcome
-overviewAnswer m lots n =
-    if not (memoryFits lots m) then Refused NoSuchLot
-    else if ltb n lots then Refused TooShort
-    else Done
-
--- one row for each lot is filled in, and none where it is refused; later rows stay
-abbrev pub rowsFor : ℕ → Outcome → ℕ
-rowsFor lots Done = lots
-rowsFor lots (Refused r) = 0
-
-abbrev pub rowsWith : List ℕ → List Row → ℕ → List Row
-rowsWith m rows n = upward n 0 (λ i. rowOf (viewOf m i) ∷ []) ++ drop n rows
-
-pub record Overviewed (m : List ℕ) (lots : ℕ) (rows rows' : List Row) (r : Outcome) : Type 0 where
-  pub answer : r ≡ overviewAnswer m lots (length rows)
-  pub filled : rows' ≡ rowsWith m rows (rowsFor lots r)

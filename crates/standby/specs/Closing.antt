@@ -10,7 +10,7 @@ use Rattle.model.specs.declared.Closed.the-variants.{Pieces, NotClosed}
 use Rattle.lot.specs.View.{holds}
 use Rattle.epoch.specs.Closed.{pairs}
 use Rattle.closing.specs.Closing.{closeOf}
-use Rattle.standby.specs.Memory.{viewOf, OnlyLot, Named, refused, found, named}
+use Rattle.lots.specs.Memory.{viewOf, OnlyLot, Named, refused, found, named}
 
 abbrev pub closeFrom : Named → ℕ → Closed
 closeFrom (refused r) room = NotClosed r

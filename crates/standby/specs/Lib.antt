@@ -1,4 +1,3 @@
-pub mod Memory
-pub mod Looks
 pub mod Calls
 pub mod Closing
+pub mod Images

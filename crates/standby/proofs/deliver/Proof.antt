@@ -1,7 +1,7 @@
 -- `deliver` meets what it owes. Assumes nothing.
 use mathlib.Core.Path.{sym, _∙_}
 use borrow.Author.Tests.{not-true, not-false}
-use Rattle.standby.proofs.Parts.{lot-inside}
+use Rattle.lots.proofs.Parts.{lot-inside}
 use Rattle.standby.proofs.Delivering.{deliver-nowhere, delivered}
 use borrow.Author.Needs.{needs}
 use Rattle.standby.proofs.deliver.Statement.{statement}

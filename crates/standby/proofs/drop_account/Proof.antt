@@ -1,7 +1,7 @@
 -- `drop_account` meets what it owes. Assumes nothing.
 use mathlib.Core.Path.{sym, _∙_}
 use borrow.Author.Tests.{not-true, not-false}
-use Rattle.standby.proofs.Parts.{lot-inside}
+use Rattle.lots.proofs.Parts.{lot-inside}
 use Rattle.standby.proofs.Calls.{drop-nowhere, drop-other, drop-done}
 use borrow.Author.Needs.{needs}
 use Rattle.standby.proofs.drop_account.Statement.{statement}

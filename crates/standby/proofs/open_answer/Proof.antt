@@ -2,8 +2,8 @@
 use mathlib.Core.Path.{sym, ap, _∙_}
 use native.Mathlib.Omega.{arith}
 use borrow.Author.Tests.{not-true, not-false}
-use Rattle.standby.specs.Looks.{placeIn}
-use Rattle.standby.proofs.Parts.{memory-long}
+use Rattle.lots.specs.Looks.{placeIn}
+use Rattle.lots.proofs.Parts.{memory-long}
 use Rattle.standby.proofs.Calls.{open-nowhere, open-damaged, open-unfit, open-placed}
 use borrow.Author.Needs.{needs}
 use Rattle.standby.proofs.open_answer.Statement.{statement}

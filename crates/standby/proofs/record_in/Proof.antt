@@ -3,7 +3,7 @@ use Rattle.lot.specs.Layout.{recordsOf}
 use Rattle.lot.specs.View.{recordAt}
 use Rattle.lot.specs.Writing.{foundOf}
 use mathlib.Core.Path.{_∙_, ap}
-use Rattle.standby.proofs.Parts.{part-is}
+use Rattle.lots.proofs.Parts.{part-is}
 use borrow.Author.Needs.{needs}
 use Rattle.standby.proofs.record_in.Statement.{statement}
 use Rattle.standby.proofs.record_in.Tie as tie

@@ -2,7 +2,7 @@
 use mathlib.Core.Path.{sym, _∙_}
 use native.Mathlib.Omega.{arith}
 use borrow.Author.Tests.{not-true, not-false}
-use Rattle.standby.proofs.Parts.{memory-long}
+use Rattle.lots.proofs.Parts.{memory-long}
 use Rattle.standby.proofs.Calls.{not-started, is-started}
 use borrow.Author.Needs.{needs}
 use Rattle.standby.proofs.start.Statement.{statement}

@@ -1,0 +1,4 @@
+pub mod Parts
+pub mod Lowest
+pub mod Looks
+pub mod Named

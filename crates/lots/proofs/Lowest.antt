@@ -1,0 +1,34 @@
+-- The lowest number that passes: it is below the end, it passes, and none before it does. Assumes nothing.
+use Prim.Native.Nat.{ℕ, zero, suc, _<_}
+use mathlib.Core.Path.{_≡_, refl}
+use mathlib.Core.Bool.{Bool, true, false, _||_}
+use native.Mathlib.Omega.{arith}
+use native.Mathlib.Decide.{decLt}
+use Rattle.model.specs.Lists.{if_then_else_}
+use Rattle.model.proofs.Tests.{no-way}
+use Rattle.lots.specs.Memory.{someBelow, lowestBelow}
+
+module _ (p : ℕ → Bool) where
+  pub record Lowest (n i : ℕ) : Type 0 where
+    pub below : i < n
+    pub passes : p i ≡ true
+    pub first : (j : ℕ) → j < i → p j ≡ false
+
+  pub none-below : (n : ℕ) → someBelow p n ≡ false → (j : ℕ) → j < n → p j ≡ false
+  unfolding someBelow
+  none-below zero e j h = absurd (omega arith)
+  none-below (suc n) e j h = go (someBelow p n) (p n) refl refl e (decLt j n) (none-below n)
+    where
+      go : (a b : Bool) → someBelow p n ≡ a → p n ≡ b → (a || b) ≡ false → Dec (j < n) → (someBelow p n ≡ false → (j : ℕ) → j < n → p j ≡ false) → p j ≡ false
+      go true b x y z d ih = no-way cc
+      go false b x y z (yes l) ih = ih x j l
+      go false b x y z (no l) ih = let w : j ≡ n = omega arith in rw w cc
+
+  pub lowest : (n : ℕ) → someBelow p n ≡ true → Lowest n (lowestBelow p n)
+  unfolding someBelow lowestBelow
+  lowest zero e = no-way e
+  lowest (suc n) e = go (someBelow p n) refl e (lowest n)
+    where
+      go : (b : Bool) → someBelow p n ≡ b → (b || p n) ≡ true → (someBelow p n ≡ true → Lowest n (lowestBelow p n)) → Lowest (suc n) (if b then lowestBelow p n else n)
+      go true x z ih = let w = ih x in record { below = omega arith; passes = w .passes; first = w .first }
+      go false x z ih = record { below = omega arith; passes = z; first = none-below n x }
