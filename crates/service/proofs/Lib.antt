@@ -1,0 +1,4 @@
+pub mod Bytes
+pub mod Crossing
+pub mod Closing
+pub mod Rows

@@ -4,11 +4,13 @@ ghost use mathlib.Core.Path.{_≡_};
 ghost use Prim.Native.Nat.{_+_, _*_, _≤_};
 ghost use lib.ListN.{length, take};
 ghost use Rattle.wire.specs.Numbers.{bytes32};
+ghost use Rattle.model.specs.Image.{each};
 ghost use Rattle.model.specs.Answers.{numbers, refusalNumbers, outcomeNumbers, openedNumbers, closedNumbers, foundNumbers};
+ghost use Rattle.image.specs.Saving.{Written};
 ghost use Rattle.standby.specs.Calls.{Started, AccountOpened, Delivered, readAnswer, Dropped};
 ghost use Rattle.service.specs.Packing.{packed, Answered};
 ghost use Rattle.service.specs.Crossing.{row16, ListClosed, RowsFilled};
-ghost use Rattle.service.specs.Writing.{inFront, roomIn, writtenBy, withRow, rowsAt};
+ghost use Rattle.service.specs.Writing.{roomIn, writtenBy, rowsAt};
 use model::Closed;
 use model::Found;
 use model::Opened;
@@ -135,7 +137,11 @@ pub extern "C" fn standby_drop(memory: &mut [u8], lots: u32, lot: u32, account: 
 fn room_in(bytes: usize) -> usize
     ensures { λ r. ⌜ r ≡ roomIn bytes ⌝ }
 {
-    if bytes < 2048 { 0 } else { 512 }
+    if bytes < 4 * closing::LEAST_LIST {
+        0
+    } else {
+        closing::LEAST_LIST
+    }
 }
 
 // How many numbers a close has written.
@@ -149,9 +155,9 @@ fn written_by(closed: Closed) -> usize
 }
 
 // The first n numbers, at the front of the bytes.
-fn put_numbers(bytes: &mut [u8], numbers: &[u32; 512], n: usize)
-    requires { ⌜ (n ≤ 512) × (n * 4 ≤ length (now bytes)) ⌝ }
-    ensures { λ _. ⌜ now (bytes .exit) ≡ inFront bytes32 4 (take n (now (numbers .entry))) (now (bytes .entry)) ⌝ }
+fn put_numbers(bytes: &mut [u8], numbers: &[u32], n: usize)
+    requires { ⌜ (n ≤ length (now numbers)) × (n * 4 ≤ length (now bytes)) ⌝ }
+    ensures { λ _. ⌜ Written (now (bytes .entry)) (now (bytes .exit)) 0 (n * 4) (each bytes32 (take n (now (numbers .entry)))) ⌝ }
 {
     let mut i: usize = 0;
     while i < n {
@@ -175,7 +181,7 @@ pub extern "C" fn standby_close(memory: &mut [u8], lots: u32, lot: u32, account:
 
 fn put_row(bytes: &mut [u8], i: usize, row: Row)
     requires { ⌜ i * 16 + 16 ≤ length (now bytes) ⌝ }
-    ensures { λ _. ⌜ now (bytes .exit) ≡ withRow (now (bytes .entry)) i row ⌝ }
+    ensures { λ _. ⌜ Written (now (bytes .entry)) (now (bytes .exit)) (i * 16) (i * 16 + 16) (row16 row) ⌝ }
 {
     wire::put32(bytes, i * 16, row.account);
     wire::put32(bytes, i * 16 + 4, row.closed);
@@ -186,7 +192,7 @@ fn put_row(bytes: &mut [u8], i: usize, row: Row)
 // The rows of the first n lots, at the front of the bytes.
 fn put_rows(memory: &[u8], lots: u32, bytes: &mut [u8], n: usize)
     requires { ⌜ (n ≤ lots) × (n * 16 ≤ length (now bytes)) ⌝ }
-    ensures { λ _. ⌜ now (bytes .exit) ≡ inFront row16 16 (rowsAt (now (memory .entry)) lots n) (now (bytes .entry)) ⌝ }
+    ensures { λ _. ⌜ Written (now (bytes .entry)) (now (bytes .exit)) 0 (n * 16) (each row16 (rowsAt (now (memory .entry)) lots n)) ⌝ }
 {
     let mut i: usize = 0;
     while i < n {

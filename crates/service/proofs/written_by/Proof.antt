@@ -1,30 +1,23 @@
+-- `written_by` answers how many numbers a close has written. Assumes nothing.
 use borrow.Author.Needs.{needs}
 use Rattle.service.proofs.written_by.Statement.{statement}
 use Rattle.service.proofs.written_by.Tie as tie
-use Rattle.service.proofs.written_by.Reads as reads
-use Rattle.service.proofs.written_by.Lts as lts
 
--- src/lib.rt:146:24
 enum-known-closed : tie.Need-enum-known-closed
 enum-known-closed c = search needs
 
--- src/lib.rt:146:39
 cast-result : tie.Need-cast-result
 cast-result c = search needs
 
--- src/lib.rt:146:34
 mul-result : tie.Need-mul-result
 mul-result c = search needs
 
--- src/lib.rt:147:33
 enum-told : tie.Need-enum-told
 enum-told c = search needs
 
--- src/lib.rt:142:1
 returns : tie.Need-returns
-returns c = ?
+returns c = rw (c .before .closed .given .1)
 
--- src/lib.rt:142:1
 returns-2 : tie.Need-returns-2
 returns-2 c = search needs
 
