@@ -117,20 +117,25 @@ module _ (m : List ℕ) (lots lot number : ℕ) where
               let d = w .closed .1 a v in
               (d .0, rw (d .1, take-at (pairs (listed a)) (drop (2 * count) list) (2 * count) (pairs-written count w a v))))
 
--- ---- the list of bytes b: `numbers` begins with what the close left in the list that it was lent
+-- ---- the list of bytes b, closed with as many of the numbers as there is room for: `left` is what the close left of these
 
-module _ (m m' : List ℕ) (lots lot number : ℕ) (b : List ℕ) (list list' rest : List ℕ) (r : Closed) (room : length list ≡ roomIn (length b)) (kept : length list' ≡ length list) (w : EpochClosed m m' lots lot number list list' r) where
-  pub written-most : writtenBy r ≤ roomIn (length b)
+module _ (m m' : List ℕ) (lots lot number : ℕ) (b numbers left : List ℕ) (room : ℕ) (r : Closed) (all : length numbers ≡ LEAST-LIST) (is-room : room ≡ roomIn (length b)) (kept : length left ≡ length (take room numbers)) (w : EpochClosed m m' lots lot number (take room numbers) left r) where
+  lent-long : length (take room numbers) ≡ roomIn (length b)
+  lent-long = length-take-le room numbers (omega (arith, room-most (length b))) ∙ is-room
+
+  written-most : writtenBy r ≤ length left
   written-most = omega (arith, written-inside m lots lot number r kept w)
 
-  pub list-closed : {b' : List ℕ} {e : ℕ} → Bytes b → Written b b' 0 e (each bytes32 (take (writtenBy r) (list' ++ rest))) → ListClosed m m' lots lot number b b' r
-  list-closed small v =
+  pub written-fits : (rest : List ℕ) → (writtenBy r ≤ length (left ++ rest)) × (writtenBy r * 4 ≤ length b)
+  written-fits rest = (omega (arith, written-most, length-append left rest), omega (arith, written-most, lent-long, room-inside (length b)))
+
+  pub list-closed : (rest : List ℕ) {b' : List ℕ} {e : ℕ} → Bytes b → Written b b' 0 e (each bytes32 (take (writtenBy r) (left ++ rest))) → ListClosed m m' lots lot number b b' r
+  list-closed rest small v =
       let n = length b / 4 in
       let k = writtenBy r in
-      let h : k ≤ length list' = omega (arith, written-most) in
-      let front : take k (list' ++ rest) ≡ take k list' = take-append-le k list' rest h in
-      let long : length (take k list') ≡ k = length-take-le k list' h in
+      let front : take k (left ++ rest) ≡ take k left = take-append-le k left rest written-most in
+      let long : length (take k left) ≡ k = length-take-le k left written-most in
       let other = parse n 4 numberIn b in
-      let alike : ltb (length list) LEAST-LIST ≡ ltb (length other) LEAST-LIST = rw (room, length-parse 4 numberIn n b) (room-alike (length b)) in
-      crosses bytes32 4 number-long numberIn number-sound b small n (omega arith) (take k list') (omega arith) (omega (arith, long, room-inside (length b), written-most)) (rw front at v)
+      let alike : ltb (length (take room numbers)) LEAST-LIST ≡ ltb (length other) LEAST-LIST = rw (lent-long, length-parse 4 numberIn n b) (room-alike (length b)) in
+      crosses bytes32 4 number-long numberIn number-sound b small n (omega arith) (take k left) (omega arith) (omega (arith, long, room-inside (length b), written-most, lent-long)) (rw front at v)
       (rw long (other-list m lots lot number r other alike w))

@@ -7,6 +7,7 @@ ghost use Rattle.wire.specs.Numbers.{bytes32};
 ghost use Rattle.model.specs.Image.{each};
 ghost use Rattle.model.specs.Answers.{numbers, refusalNumbers, outcomeNumbers, openedNumbers, closedNumbers, foundNumbers};
 ghost use Rattle.image.specs.Saving.{Written};
+ghost use Rattle.closing.specs.Closing.{LEAST-LIST};
 ghost use Rattle.standby.specs.Calls.{Started, AccountOpened, Delivered, readAnswer, Dropped};
 ghost use Rattle.service.specs.Packing.{packed, Answered};
 ghost use Rattle.service.specs.Crossing.{row16, ListClosed, RowsFilled};
@@ -166,15 +167,23 @@ fn put_numbers(bytes: &mut [u8], numbers: &[u32], n: usize)
     }
 }
 
+// A close with numbers of its own for the list: what it writes there is then written as bytes.
+fn close_list(memory: &mut [u8], lots: u32, lot: u32, account: u32, list: &mut [u8], numbers: &mut [u32]) -> Closed
+    requires { ⌜ length (now numbers) ≡ LEAST-LIST ⌝ }
+    ensures { λ r. ⌜ ListClosed (now (memory .entry)) (now (memory .exit)) lots lot account (now (list .entry)) (now (list .exit)) r ⌝ }
+{
+    let room = room_in(list.len());
+    let closed = standby::close_epoch(memory, lots, lot, account, &mut numbers[0..room]);
+    put_numbers(list, numbers, written_by(closed));
+    closed
+}
+
 #[no_mangle]
 pub extern "C" fn standby_close(memory: &mut [u8], lots: u32, lot: u32, account: u32, list: &mut [u8]) -> u64
     ensures { λ r. ⌜ Answered closedNumbers (ListClosed (now (memory .entry)) (now (memory .exit)) lots lot account (now (list .entry)) (now (list .exit))) r ⌝ }
 {
     let mut numbers = [0u32; 512];
-    let room = room_in(list.len());
-    let closed = standby::close_epoch(memory, lots, lot, account, &mut numbers[0..room]);
-    put_numbers(list, &numbers, written_by(closed));
-    of_closed(closed)
+    of_closed(close_list(memory, lots, lot, account, list, &mut numbers))
 }
 
 // ---- the overview: a row crosses as four numbers
