@@ -10,8 +10,8 @@ use lib.Seq.{take-at, take-append-le, length-take-le}
 use borrow.Author.Tests.{ltb-true, ltb-false, lt-ltb, le-ltb}
 use Rattle.wire.specs.Numbers.{bytes32}
 use Rattle.model.specs.Lists.{if_then_else_}
-use Rattle.model.specs.Account.{Account}
-use Rattle.model.specs.Closing.{listed, judgeClose}
+use Rattle.model.specs.Account.{Account, Named, refused, found}
+use Rattle.model.specs.Closing.{LEAST-LIST, judgeRoom, listed, pairs, closeJudged, closeFrom}
 use Rattle.model.specs.Image.{each}
 use Rattle.model.specs.Decoding.{parse}
 use Rattle.model.specs.declared.Closed.{Closed}
@@ -23,12 +23,10 @@ use Rattle.lot.specs.View.{holds}
 use Rattle.lookback.proofs.Places.{length-parse}
 use Rattle.judging.proofs.Parts.{Bytes}
 use Rattle.image.specs.Saving.{Written}
-use Rattle.epoch.specs.Closed.{pairs}
 use Rattle.epoch.proofs.Listing.{length-numbers}
-use Rattle.closing.specs.Closing.{LEAST-LIST, judgeRoom, closeJudged}
-use Rattle.lots.specs.Memory.{viewOf, Named, refused, found, named}
+use Rattle.lots.specs.Memory.{viewOf, named}
 use Rattle.lots.proofs.Named.{holder}
-use Rattle.standby.specs.Closing.{closeFrom, closeAnswer, ClosedAs, EpochClosed}
+use Rattle.standby.specs.Closing.{closeAnswer, ClosedAs, EpochClosed}
 use Rattle.service.specs.Crossing.{ListClosed}
 use Rattle.service.specs.Writing.{roomIn, writtenBy}
 use Rattle.service.proofs.Crossing.{crosses, numberIn, number-long, number-sound}

@@ -3,9 +3,9 @@ use Prim.Native.Nat.{ℕ, _*_}
 use mathlib.Core.List.{List, [], _∷_}
 use lib.Dec.{ltb}
 use Rattle.model.specs.Lists.{if_then_else_, upward}
+use Rattle.model.specs.Closing.{LEAST-LIST}
 use Rattle.model.specs.declared.Closed.{Closed}
 use Rattle.model.specs.declared.Closed.the-variants.{Pieces, NotClosed}
-use Rattle.closing.specs.Closing.{LEAST-LIST}
 use Rattle.overview.specs.Overview.{rowAt}
 use Rattle.overview.specs.declared.Row.{Row}
 

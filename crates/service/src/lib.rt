@@ -4,11 +4,12 @@ ghost use mathlib.Core.Path.{_≡_};
 ghost use Prim.Native.Nat.{_+_, _*_, _≤_};
 ghost use lib.ListN.{length, take};
 ghost use Rattle.wire.specs.Numbers.{bytes32};
+ghost use Rattle.model.specs.Closing.{LEAST-LIST};
 ghost use Rattle.model.specs.Image.{each};
-ghost use Rattle.model.specs.Answers.{numbers, refusalNumbers, outcomeNumbers, openedNumbers, closedNumbers, foundNumbers};
+ghost use Rattle.model.specs.Answers.{numbers, refusalNumbers, outcomeNumbers, openedNumbers, closedNumbers, foundNumbers, savedNumbers};
 ghost use Rattle.image.specs.Saving.{Written};
-ghost use Rattle.closing.specs.Closing.{LEAST-LIST};
 ghost use Rattle.standby.specs.Calls.{Started, AccountOpened, Delivered, readAnswer, Dropped};
+ghost use Rattle.standby.specs.Images.{AccountSaved, AccountLoaded};
 ghost use Rattle.service.specs.Packing.{packed, Answered};
 ghost use Rattle.service.specs.Crossing.{row16, ListClosed, RowsFilled};
 ghost use Rattle.service.specs.Writing.{roomIn, writtenBy, rowsAt};
@@ -17,6 +18,7 @@ use model::Found;
 use model::Opened;
 use model::Outcome;
 use model::Refusal;
+use model::Saved;
 use overview::Row;
 
 // ---- an answer as one number
@@ -88,6 +90,15 @@ fn of_found(found: Found) -> u64
     }
 }
 
+fn of_saved(saved: Saved) -> u64
+    ensures { λ r. ⌜ r ≡ packed (savedNumbers saved) ⌝ }
+{
+    match saved {
+        Saved::Length(length) => pack(0, length, 0),
+        Saved::NotSaved(refusal) => of_refusal(refusal),
+    }
+}
+
 // ---- the calls whose buffers are plain bytes
 
 #[no_mangle]
@@ -123,6 +134,20 @@ pub extern "C" fn standby_read(
     ensures { λ r. ⌜ r ≡ packed (foundNumbers (readAnswer (now (memory .entry)) lots lot account fragment key)) ⌝ }
 {
     of_found(standby::read_record(memory, lots, lot, account, fragment, key))
+}
+
+#[no_mangle]
+pub extern "C" fn standby_save(memory: &[u8], lots: u32, lot: u32, account: u32, image: &mut [u8]) -> u64
+    ensures { λ r. ⌜ Answered savedNumbers (AccountSaved (now (memory .entry)) lots lot account (now (image .entry)) (now (image .exit))) r ⌝ }
+{
+    of_saved(standby::save_account(memory, lots, lot, account, image))
+}
+
+#[no_mangle]
+pub extern "C" fn standby_load(memory: &mut [u8], lots: u32, data: &[u8]) -> u64
+    ensures { λ r. ⌜ Answered openedNumbers (AccountLoaded (now (memory .entry)) (now (memory .exit)) lots (now («data» .entry))) r ⌝ }
+{
+    of_opened(standby::load_account(memory, lots, data))
 }
 
 #[no_mangle]
