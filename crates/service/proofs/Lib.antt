@@ -1,3 +1,4 @@
+pub mod Packing
 pub mod Bytes
 pub mod Crossing
 pub mod Closing

@@ -1,11 +1,11 @@
 -- The rows that are written are those of the overview. Assumes nothing.
-use Prim.Native.Nat.{ℕ, _+_, _*_, _/_, _<_, _≤_}
-use mathlib.Core.Path.{_≡_, refl, sym, ap, _∙_}
-use mathlib.Core.Bool.{Bool, true, false, not, _&&_}
-use mathlib.Core.List.{List, [], _∷_, _++_}
+use Prim.Native.Nat.{ℕ, _/_, _<_, _≤_}
+use mathlib.Core.Path.{_≡_, refl, ap}
+use mathlib.Core.Bool.{Bool, true, false, not}
+use mathlib.Core.List.{List, [], _∷_}
 use native.Mathlib.Omega.{arith}
 use lib.Dec.{ltb}
-use lib.ListN.{length, drop}
+use lib.ListN.{length}
 use borrow.Author.Tests.{lt-ltb}
 use Rattle.model.specs.Lists.{if_then_else_, upward}
 use Rattle.model.specs.Image.{each}
@@ -18,7 +18,7 @@ use Rattle.lookback.proofs.Places.{length-parse}
 use Rattle.judging.proofs.Parts.{Bytes}
 use Rattle.image.specs.Saving.{Written}
 use Rattle.lots.specs.Memory.{memoryFits, lotFits, viewOf}
-use Rattle.overview.specs.Overview.{rowOf, rowAt, overviewAnswer, rowsFor, rowsWith}
+use Rattle.overview.specs.Overview.{rowOf, rowAt, overviewAnswer, rowsFor}
 use Rattle.overview.proofs.Rows.{due-enough}
 use Rattle.service.specs.Crossing.{row16, RowsFilled}
 use Rattle.service.specs.Writing.{rowsAt}

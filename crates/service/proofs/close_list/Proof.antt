@@ -2,7 +2,6 @@
 use Prim.Native.Nat.{_-_}
 use Rattle.service.proofs.Closing.{room-most, written-fits, list-closed}
 use lib.ListN.{length}
-use mathlib.Core.Path.{_≡_, refl}
 use native.Mathlib.Omega.{arith}
 use borrow.Author.Needs.{needs}
 use Rattle.service.proofs.close_list.Statement.{statement}

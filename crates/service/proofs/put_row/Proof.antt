@@ -42,7 +42,13 @@ same-length : tie.Need-same-length
 same-length c = search needs
 
 returns : tie.Need-returns
-returns c = let a = c .before .before .before .before .before .before .before .before .before .before .before .before .before .before .before .before .before .args in rw (c .before .before .put324 .ensures, c .before .before .before .before .before .before .put323 .ensures, c .before .before .before .before .before .before .before .before .before .before .put322 .ensures, c .before .before .before .before .before .before .before .before .before .before .before .before .before .before .put32 .ensures) (row-written (a .bytes .now) (a .i * 16) (a .row) (c .before .before .before .before .before .before .before .before .before .before .before .before .before .before .before .before .before .pre))
+returns c =
+    let third = c .before .before .before .before .before .before in
+    let second = third .before .before .before .before in
+    let first = second .before .before .before .before in
+    let s = first .before .before .before in
+    rw (c .before .before .put324 .ensures, third .put323 .ensures, second .put322 .ensures, first .put32 .ensures)
+    (row-written (s .args .bytes .now) (s .args .i * 16) (s .args .row) (s .pre))
 
 pub put-row-spec : {M : Type 1} → statement M
 put-row-spec =

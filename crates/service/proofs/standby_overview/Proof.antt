@@ -3,7 +3,6 @@ use lib.ListN.{length}
 use Prim.Native.Nat.{_/_}
 use Rattle.service.proofs.Rows.{due-lots, rows-filled}
 use Rattle.overview.proofs.Rows.{due-enough}
-use mathlib.Core.Path.{_≡_}
 use native.Mathlib.Omega.{arith}
 use borrow.Author.Needs.{needs}
 use Rattle.service.proofs.standby_overview.Statement.{statement}
@@ -13,7 +12,11 @@ rows-due-requires : tie.Need-rows-due-requires
 rows-due-requires c κs = search needs
 
 put-rows-requires : tie.Need-put-rows-requires
-put-rows-requires c κs = let a = c .before .before .before .before .args in let n = length (a .rows .now) / 16 in let e = c .rows-due .ensures in (rw e (due-lots (a .memory .now) (a .lots) n), omega (arith, e, due-enough (a .memory .now) (a .lots) n))
+put-rows-requires c κs =
+    let a = c .before .before .before .before .args in
+    let n = length (a .rows .now) / 16 in
+    let e = c .rows-due .ensures in
+    (rw e (due-lots (a .memory .now) (a .lots) n), omega (arith, e, due-enough (a .memory .now) (a .lots) n))
 
 overview-answer-requires : tie.Need-overview-answer-requires
 overview-answer-requires c κs = search needs
@@ -25,7 +28,15 @@ same-length : tie.Need-same-length
 same-length c = search needs
 
 returns : tie.Need-returns
-returns c = let d = c .before .before .before .before .before in let a = d .before .before .before .before .args in let o = c .before .overview-answer in record { answer = o .result; owed = rw (o .ensures) (rows-filled (a .memory .now) (a .lots) (a .rows .now) (λ i. omega (arith, d .before .before .slice-known .given i .fits)) (d .rows-due .ensures) (c .before .before .before .before .put-rows .ensures)); packs = c .of-outcome .ensures }
+returns c =
+    let d = c .before .before .before .before .before in
+    let a = d .before .before .before .before .args in
+    let o = c .before .overview-answer in
+    record {
+      answer = o .result;
+      owed = rw (o .ensures) (rows-filled (a .memory .now) (a .lots) (a .rows .now) (λ i. omega (arith, d .before .before .slice-known .given i .fits)) (d .rows-due .ensures) (c .before .before .before .before .put-rows .ensures));
+      packs = c .of-outcome .ensures;
+    }
 
 pub standby-overview-spec : {M : Type 1} → statement M
 standby-overview-spec =
