@@ -20,7 +20,7 @@ unfolding pairs
 numbers-append [] qs = refl
 numbers-append (p ∷ ps) qs = rw (numbers-append ps qs)
 
-length-numbers : (ps : List Piece) → length (pairs ps) ≡ length ps * 2
+pub length-numbers : (ps : List Piece) → length (pairs ps) ≡ length ps * 2
 unfolding pairs
 length-numbers [] = omega arith
 length-numbers (p ∷ ps) = omega (arith, length-numbers ps)

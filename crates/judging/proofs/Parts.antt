@@ -35,7 +35,7 @@ module _ {X : Type 0} (size : ℕ) (enc : X → List ℕ) where
   each-append [] ys = refl
   each-append (x ∷ xs) ys = rw (each-append xs ys) (sym (append-assoc (enc x) (each enc xs) (each enc ys)))
 
-  parts-sound : (dec : List ℕ → X) (n : ℕ) (l : List ℕ) → ((i : ℕ) → i < n → enc (dec (drop (i * size) l)) ≡ take size (drop (i * size) l)) → each enc (parse n size dec l) ≡ take (n * size) l
+  pub parts-sound : (dec : List ℕ → X) (n : ℕ) (l : List ℕ) → ((i : ℕ) → i < n → enc (dec (drop (i * size) l)) ≡ take size (drop (i * size) l)) → each enc (parse n size dec l) ≡ take (n * size) l
   unfolding each parse
   parts-sound dec zero l w = let z : 0 * size ≡ 0 = omega arith in rw z
   parts-sound dec (suc n) l w =

@@ -1,0 +1,5 @@
+pub mod Packing
+pub mod Bytes
+pub mod Crossing
+pub mod Closing
+pub mod Rows
