@@ -31,13 +31,13 @@ use Rattle.replaying.proofs.Closes.{same-fit}
 -- ---- what is written out
 
 -- the first bytes of the buffer are the text
-text-out : {text out out' : List ℕ} {end : ℕ} → length out ≡ ROOM → Printed text out out' end → take end out' ≡ text
+pub text-out : {text out out' : List ℕ} {end : ℕ} → length out ≡ ROOM → Printed text out out' end → take end out' ≡ text
 text-out {text} {out} {out'} {end} long p =
     let all : end ≡ length text = p .wrote .ends ∙ (omega arith) in
     let room : 0 + length text ≤ length out = omega (arith, p .within) in
     rw (p .wrote .bytes, sets-eq text out 0 room, all) (take-at text (drop (0 + length text) out) (length text) refl)
 
-nothing-out : {text out out' : List ℕ} → Printed text out out' 0 → length text ≡ 0
+pub nothing-out : {text out out' : List ℕ} → Printed text out out' 0 → length text ≡ 0
 nothing-out p = omega (arith, p .wrote .ends)
 
 closed-text : (a : Account) → 0 < length (closedText a)
