@@ -3,3 +3,4 @@ pub mod Closes
 pub mod Records
 pub mod Steps
 pub mod Runs
+pub mod Same
