@@ -1,28 +1,27 @@
 -- A whole run: what the calls of the program write out is what the page says of the header and the entries. Assumes nothing.
-use Prim.Native.Nat.{ℕ, suc, _+_, _<_, _≤_}
-use mathlib.Core.Path.{_≡_, refl, ap, sym, _∙_}
+use Prim.Native.Nat.{ℕ, _+_, _<_}
+use mathlib.Core.Path.{_≡_, refl, _∙_}
 use mathlib.Core.Bool.{Bool, true, false, not}
-use mathlib.Core.List.{List, [], _∷_, _++_}
+use mathlib.Core.List.{List, _++_}
 use native.Mathlib.Omega.{arith}
 use borrow.Author.Tests.{eq-eqb}
 use lib.ListN.{length, take}
 use Rattle.model.specs.Lists.{if_then_else_, every}
-use Rattle.model.specs.Account.{Account, accountFits, fresh}
+use Rattle.model.specs.Account.{Account, fresh}
 use Rattle.model.specs.declared.Refusal.the-variants.{UnfitAccount}
 use Rattle.model.specs.declared.Outcome.{Outcome}
-use Rattle.model.specs.declared.Outcome.the-variants.{Done, Refused}
+use Rattle.model.specs.declared.Outcome.the-variants.{Done}
 use Rattle.model.specs.declared.Opened.{Opened}
 use Rattle.model.specs.declared.Opened.the-variants.{InLot, NotOpened}
 use Rattle.lot.specs.Layout.{SIZE}
-use Rattle.lot.specs.View.{free, holds}
+use Rattle.lot.specs.View.{free}
 use Rattle.lots.specs.Memory.{memoryFits, lotFits, viewOf, someBelow, lowestBelow, found, named}
-use Rattle.standby.specs.Calls.{startAnswer, FreedAll, Started, placeFor, openAnswer, OpenedAs}
-use Rattle.lines.specs.Text.{ROOM}
+use Rattle.standby.specs.Calls.{startAnswer, Started, placeFor, openAnswer, OpenedAs}
 use Rattle.lines.specs.Lines.{openLine}
 use Rattle.replaying.specs.declared.Header.{Header}
-use Rattle.replaying.specs.Replaying.{numberOf, Printed, headerOf, openText, answerTo, HeaderOpened, accountText, lastText}
+use Rattle.replaying.specs.Replaying.{numberOf, Printed, headerOf, openText, answerTo, HeaderOpened, accountText}
 use Rattle.replaying.specs.Runs as runs
-use Rattle.replaying.specs.Runs.{Steps, headerFits, Prints, EntriesCalls, Calls}
+use Rattle.replaying.specs.Runs.{Steps, headerFits, accountOf, Prints, EntriesCalls, Calls}
 use Rattle.replaying.proofs.Steps.{text-out, nothing-out, entry-calls}
 
 -- ---- the header
@@ -44,9 +43,9 @@ started m m' {r} long w =
     record { long = f .long ∙ long; empty = f .each 0 (omega arith) }
 
 -- there the account is opened in lot 0 where it fits, and refused by 15 where not
-fresh-answer : (m : List ℕ) (h : Header) → Free m → answerTo m h ≡ (if accountFits (h .account) (h .fragments) (h .keys) then InLot 0 else NotOpened UnfitAccount)
+fresh-answer : (m : List ℕ) (h : Header) → Free m → answerTo m h ≡ (if headerFits h then InLot 0 else NotOpened UnfitAccount)
 unfolding openAnswer placeFor someBelow lowestBelow
-fresh-answer m h f = rw (one-lot m (f .long), f .empty) (go (accountFits (h .account) (h .fragments) (h .keys)))
+fresh-answer m h f = rw (one-lot m (f .long), f .empty) (go (headerFits h))
   where
     go : (b : Bool) → (if not b then NotOpened UnfitAccount else InLot 0) ≡ (if b then InLot 0 else NotOpened UnfitAccount)
     go true = refl
@@ -60,14 +59,11 @@ unfolding openLine
 open-line n = omega arith
 
 module _ (h : Header) where
-  abbrev start : Account
-  start = fresh (h .account) (h .fragments) (h .keys)
-
-  open-one : (m m' : List ℕ) {out out' : List ℕ} {end : ℕ} → Free m → HeaderOpened m m' h out out' end → (b : Bool) → accountFits (h .account) (h .fragments) (h .keys) ≡ b
-      → OpenedAs m m' start (openedBy b) × Printed (openText (openedBy b)) out out' end
+  open-one : (m m' : List ℕ) {out out' : List ℕ} {end : ℕ} → Free m → HeaderOpened m m' h out out' end → (b : Bool) → headerFits h ≡ b
+      → OpenedAs m m' (accountOf h) (openedBy b) × Printed (openText (openedBy b)) out out' end
   open-one m m' f w b e = let s : answerTo m h ≡ openedBy b = fresh-answer m h f ∙ rw e in (rw s at (w .opened .opened), rw s at (w .printed))
 
-  open-named : (m m' : List ℕ) → Free m → OpenedAs m m' start (InLot 0) → named m' 1 0 (h .account) ≡ found start
+  open-named : (m m' : List ℕ) → Free m → OpenedAs m m' (accountOf h) (InLot 0) → named m' 1 0 (h .account) ≡ found (accountOf h)
   unfolding named lotFits fresh
   open-named m m' f w = rw (one-lot m' (w .0 .long ∙ f .long), w .1, eq-eqb (h .account) (h .account) refl)
 
@@ -92,20 +88,20 @@ module _ (number : ℕ) where
 module _ (header : List ℕ) (entries : List (List ℕ)) where
   -- what the calls of the program write out is what the page says
   pub run-prints : {text : List ℕ} → Calls header entries text → Prints header entries text
-  run-prints (runs.refused {m} {m'} {m″} {out} {out'} {r} {end} long room s some w) = go (accountFits (headerOf header .account) (headerOf header .fragments) (headerOf header .keys)) refl
+  run-prints (runs.refused {m} {m'} {m″} {out} {out'} {r} {end} long room s some w) = go (headerFits (headerOf header)) refl
     where
       f : Free m'
       f = started m m' long s
 
-      go : (b : Bool) → accountFits (headerOf header .account) (headerOf header .fragments) (headerOf header .keys) ≡ b → Prints header entries (take end out')
+      go : (b : Bool) → headerFits (headerOf header) ≡ b → Prints header entries (take end out')
       go true e = absurd (omega (arith, open-one (headerOf header) m' m″ f w true e .1 .wrote .ends))
       go false e = rw (text-out room (open-one (headerOf header) m' m″ f w false e .1)) (runs.unfit e)
-  run-prints (runs.opened {m} {m'} {m″} {n} {out} {out'} {last} {last'} {text} {r} {end} long room s w es p) = go (accountFits (headerOf header .account) (headerOf header .fragments) (headerOf header .keys)) refl
+  run-prints (runs.opened {m} {m'} {m″} {n} {out} {out'} {last} {last'} {text} {r} {end} long room s w es p) = go (headerFits (headerOf header)) refl
     where
       f : Free m'
       f = started m m' long s
 
-      go : (b : Bool) → accountFits (headerOf header .account) (headerOf header .fragments) (headerOf header .keys) ≡ b → Prints header entries (text ++ take end last')
+      go : (b : Bool) → headerFits (headerOf header) ≡ b → Prints header entries (text ++ take end last')
       go true e =
           let l = entries-calls (headerOf header .account) es (open-named (headerOf header) m' m″ f (open-one (headerOf header) m' m″ f w true e .0)) in
           let q : Printed (accountText (l .account)) last last' end = rw (l .there) at p in

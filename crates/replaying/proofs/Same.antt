@@ -1,21 +1,20 @@
 -- The page's text of a run is one: two that it says of the same header and entries are equal. A header under 4 bytes is unfit. Assumes nothing.
 use Prim.Native.Nat.{ℕ, _<_}
 use mathlib.Core.Path.{_≡_, refl, ap, sym, _∙_}
-use mathlib.Core.Bool.{true, false}
-use mathlib.Core.List.{List, [], _∷_, _++_}
+use mathlib.Core.Bool.{false}
+use mathlib.Core.List.{List, _++_}
 use borrow.Author.Tests.{lt-ltb}
 use lib.ListN.{length}
 use Rattle.model.specs.Lists.{every}
 use Rattle.model.specs.Account.{Account, accountFits}
 use Rattle.model.proofs.Tests.{no-way}
-use Rattle.lines.specs.Lines.{openLine}
 use Rattle.replaying.specs.Replaying.{headerOf, closedText, accountText}
 use Rattle.replaying.specs.Steps as steps
 use Rattle.replaying.specs.Steps.{Closings, Step}
 use Rattle.replaying.specs.Runs as runs
-use Rattle.replaying.specs.Runs.{Steps, Prints}
+use Rattle.replaying.specs.Runs.{Steps, headerFits, Prints}
 
-pub short-header : (header : List ℕ) → length header < 4 → accountFits (headerOf header .account) (headerOf header .fragments) (headerOf header .keys) ≡ false
+pub short-header : (header : List ℕ) → length header < 4 → headerFits (headerOf header) ≡ false
 unfolding headerOf accountFits every
 short-header header h = rw (lt-ltb (length header) 4 h)
 

@@ -1,7 +1,7 @@
 -- A whole run of the program: what it prints of a header and entries, by the page, and the calls by which it does.
 use Prim.Native.Nat.{ℕ, suc, _<_}
 use mathlib.Core.Path.{_≡_}
-use mathlib.Core.Bool.{true, false}
+use mathlib.Core.Bool.{Bool, true, false}
 use mathlib.Core.List.{List, [], _∷_, _++_}
 use lib.ListN.{length, take}
 use Rattle.model.specs.Account.{Account, accountFits, fresh}
@@ -23,14 +23,16 @@ pub data Steps : ℕ → List (List ℕ) → Account → List ℕ → Account �
   ended : {i : ℕ} {a : Account} → Steps i [] a [] a
   step : {i : ℕ} {bytes text later : List ℕ} {rest : List (List ℕ)} {a b c : Account} → Step i bytes a text b → Steps (suc i) rest b later c → Steps i (bytes ∷ rest) a (text ++ later) c
 
-abbrev pub headerFits : Header → Type 0
-headerFits h = accountFits (h .account) (h .fragments) (h .keys) ≡ true
+abbrev pub headerFits : Header → Bool
+headerFits h = accountFits (h .account) (h .fragments) (h .keys)
+
+abbrev pub accountOf : Header → Account
+accountOf h = fresh (h .account) (h .fragments) (h .keys)
 
 -- a refused header and nothing more; or what the entries print, the records and the held count
 pub data Prints (header : List ℕ) (entries : List (List ℕ)) : List ℕ → Type 0 where
-  unfit : accountFits (headerOf header .account) (headerOf header .fragments) (headerOf header .keys) ≡ false → Prints header entries (openLine (numberOf UnfitAccount))
-  whole : {text : List ℕ} {b : Account} → headerFits (headerOf header) → Steps 0 entries (fresh (headerOf header .account) (headerOf header .fragments) (headerOf header .keys)) text b
-      → Prints header entries (text ++ accountText b)
+  unfit : headerFits (headerOf header) ≡ false → Prints header entries (openLine (numberOf UnfitAccount))
+  whole : {text : List ℕ} {b : Account} → headerFits (headerOf header) ≡ true → Steps 0 entries (accountOf (headerOf header)) text b → Prints header entries (text ++ accountText b)
 
 -- ---- by the calls
 
