@@ -16,8 +16,7 @@ use Rattle.model.specs.declared.Outcome.the-variants.{Done, Refused}
 use Rattle.model.specs.declared.Closed.{Closed}
 use Rattle.model.specs.declared.Closed.the-variants.{Pieces, NotClosed}
 use Rattle.model.proofs.Tests.{no-way}
-use Rattle.lot.specs.View.{holds}
-use Rattle.lots.specs.Memory.{memoryFits, lotFits, viewOf, named}
+use Rattle.lots.specs.Memory.{memoryFits, lotFits, named}
 use Rattle.lots.proofs.Named.{Holder, holder}
 use Rattle.standby.specs.Closing as standby
 use Rattle.standby.specs.Closing.{EpochClosed}

@@ -2,3 +2,5 @@ pub mod Printing
 pub mod Closes
 pub mod Records
 pub mod Steps
+pub mod Runs
+pub mod Same

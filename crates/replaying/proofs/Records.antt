@@ -1,12 +1,12 @@
 -- What is printed at the end: each present record of the account, by fragment, then key, and the held count. Assumes nothing.
 use Prim.Native.Nat.{ℕ, zero, suc, _<_, _≤_}
 use mathlib.Core.Path.{_≡_, refl, ap, sym, _∙_}
-use mathlib.Core.List.{List, [], _∷_, _++_, append-nil}
+use mathlib.Core.List.{List, _++_, append-nil}
 use native.Mathlib.Omega.{arith}
 use borrow.Author.Tests.{lt-ltb}
 use Rattle.model.specs.Lists.{upward}
-use Rattle.model.specs.Account.{Account, Record, absent, present, found, refused}
-use Rattle.model.specs.Image.{Present, shown, form, each}
+use Rattle.model.specs.Account.{Account, Record, absent, present, found}
+use Rattle.model.specs.Image.{shown, form, each}
 use Rattle.model.specs.declared.Refusal.{Refusal}
 use Rattle.model.proofs.Buckets.{upward-cong}
 use Rattle.lot.specs.Writing.{foundOf}

@@ -1,8 +1,8 @@
 -- The calls of the program make the step of the page: what they write out is its text, and the lot holds its account. Assumes nothing.
 use Prim.Native.Nat.{ℕ, _+_, _<_, _≤_}
-use mathlib.Core.Path.{_≡_, refl, ap, sym, _∙_}
+use mathlib.Core.Path.{_≡_, refl, sym, _∙_}
 use mathlib.Core.Bool.{true}
-use mathlib.Core.List.{List, [], _∷_, _++_}
+use mathlib.Core.List.{List, [], _++_}
 use native.Mathlib.Omega.{arith}
 use borrow.Author.Tests.{eq-eqb}
 use lib.ListN.{length, take, drop}
@@ -10,20 +10,17 @@ use lib.Seq.{sets-eq, take-at}
 use Rattle.model.specs.Account.{Account, found}
 use Rattle.model.specs.Entry.{entryOf}
 use Rattle.model.specs.Taking.{judge, taken}
-use Rattle.model.specs.Closing.{judgeClose, close, listed, LEAST-LIST, judgeRoom, closeJudged}
-use Rattle.model.specs.declared.Refusal.{Refusal}
+use Rattle.model.specs.Closing.{judgeClose, close, listed, judgeRoom, closeJudged}
 use Rattle.model.specs.declared.Outcome.{Outcome}
 use Rattle.model.specs.declared.Outcome.the-variants.{Done, Refused}
 use Rattle.model.specs.declared.Closed.{Closed}
-use Rattle.model.specs.declared.Closed.the-variants.{Pieces, NotClosed}
-use Rattle.model.proofs.Tests.{no-way}
 use Rattle.lot.specs.View.{holds}
 use Rattle.lots.specs.Memory.{lotFits, viewOf, OnlyLot, named}
 use Rattle.lots.proofs.Named.{holder}
-use Rattle.standby.specs.Calls.{deliverAnswer, Delivered, TakenBy}
-use Rattle.lines.specs.Text.{Wrote, ROOM}
+use Rattle.standby.specs.Calls.{deliverAnswer, TakenBy}
+use Rattle.lines.specs.Text.{ROOM}
 use Rattle.lines.specs.Lines.{epochLine, entryLine}
-use Rattle.replaying.specs.Replaying.{numberOf, Printed, entryText, EntryDelivered, closedText, closeAnswer, closeText, LotClosed, NextClosed}
+use Rattle.replaying.specs.Replaying.{numberOf, Printed, entryText, EntryDelivered, closedText, closeText, LotClosed, NextClosed}
 use Rattle.replaying.specs.Steps as steps
 use Rattle.replaying.specs.Steps.{Closings, Step, CloseCalls, EntryCalls, stuck, closes, stop, again, printed, silent}
 use Rattle.replaying.proofs.Closes.{same-fit}
@@ -31,13 +28,13 @@ use Rattle.replaying.proofs.Closes.{same-fit}
 -- ---- what is written out
 
 -- the first bytes of the buffer are the text
-text-out : {text out out' : List ℕ} {end : ℕ} → length out ≡ ROOM → Printed text out out' end → take end out' ≡ text
+pub text-out : {text out out' : List ℕ} {end : ℕ} → length out ≡ ROOM → Printed text out out' end → take end out' ≡ text
 text-out {text} {out} {out'} {end} long p =
     let all : end ≡ length text = p .wrote .ends ∙ (omega arith) in
     let room : 0 + length text ≤ length out = omega (arith, p .within) in
     rw (p .wrote .bytes, sets-eq text out 0 room, all) (take-at text (drop (0 + length text) out) (length text) refl)
 
-nothing-out : {text out out' : List ℕ} → Printed text out out' 0 → length text ≡ 0
+pub nothing-out : {text out out' : List ℕ} → Printed text out out' 0 → length text ≡ 0
 nothing-out p = omega (arith, p .wrote .ends)
 
 closed-text : (a : Account) → 0 < length (closedText a)

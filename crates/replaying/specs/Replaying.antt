@@ -1,7 +1,7 @@
 -- What the program prints of each call on its one lot, lot 0 of 1, and what each function owes: the memory by the contracts of the calls, the text in the lent buffer `out`, and where it ends.
 use Prim.Native.Nat.{ℕ, suc, _+_, _*_, _≤_}
 use mathlib.Core.Path.{_≡_}
-use mathlib.Core.List.{List, [], _∷_, _++_}
+use mathlib.Core.List.{List, [], _++_}
 use lib.Dec.{ltb}
 use lib.ListN.{length, getD}
 use Rattle.wire.specs.Numbers.{number16}

@@ -1,5 +1,5 @@
 -- An epoch is closed where it can, and then printed with its pieces. Assumes nothing.
-use mathlib.Core.Path.{refl, _∙_}
+use mathlib.Core.Path.{refl}
 use Rattle.replaying.proofs.Closes.{not-closed, count-fits, epoch-printed}
 use borrow.Author.Needs.{needs}
 use Rattle.replaying.proofs.close_next.Statement.{statement}

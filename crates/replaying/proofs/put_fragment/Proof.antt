@@ -1,6 +1,6 @@
 -- The reads of a fragment are printed key by key. Assumes nothing.
 use Prim.Native.Nat.{_+_, _*_, _-_, _≤_}
-use mathlib.Core.Path.{_≡_, sym}
+use mathlib.Core.Path.{_≡_}
 use native.Mathlib.Omega.{arith}
 use Rattle.lines.specs.Text.{Wrote}
 use Rattle.replaying.proofs.Printing.{wrote-start, wrote-upward}
