@@ -1,4 +1,7 @@
 -- Demand 1, isolation: what calls for other accounts do never reaches an open account in its undamaged lot. Assumes nothing.
+-- The account has a number and a lot. Its own calls name both: deliver, close, read, save, and drop, which may end it. Start is a call for all accounts, and may end it too.
+-- Every other call counts as one for another account: whichever call names another lot, or this lot with another number; open and load of any account, this one among them (13); the overview; with any lot count.
+-- Calls that may end it stand at the ends of the runs compared: where drop is refused, or start, nothing has changed (`refusal-changes-nothing`), and the runs go on from memories that agree.
 use Prim.Native.Nat.{ℕ}
 use mathlib.Core.Path.{_≡_, refl, sym, ap, _∙_}
 use mathlib.Core.Logic.{_≢_}
@@ -31,9 +34,9 @@ use Rattle.standby.specs.Closing.{closeFrom, closeAnswer, ClosedAs, EpochClosed
 use Rattle.standby.specs.Images.{saveFrom, saveAnswer, SavedIn, AccountSaved, loadAnswer, LoadedAs, AccountLoaded}
 use Rattle.standby.proofs.Determined.{closed-alike}
 use Rattle.standby.proofs.Isolated.{open-elsewhere}
-use Rattle.promises.specs.Runs.{Call, Reply, outcome, closed, found as found-reply, saved, Step, starts, opens, delivers, closes, reads, saves, loads, drops, overviews, Turn, Run, ends, goes}
-use Rattle.promises.specs.Own.{names, isOwn, isEnd, Kept, ownTurns}
-use Rattle.promises.specs.Holding.{Holding, Agree}
+use Rattle.promises.specs.Runs.{Call, drop-account, Reply, outcome, closed, found as found-reply, saved, Step, starts, opens, delivers, closes, reads, saves, loads, drops, overviews, Turn, Run, ends, goes}
+use Rattle.promises.specs.Own.{names, isOwn, isEnd, Kept, ownTurns, callsOf}
+use Rattle.promises.specs.Holding.{Holding, Agree, SameOwnCalls, AnsweredAlike}
 use Rattle.promises.proofs.Placing.{loaded-placed}
 use Rattle.promises.proofs.Written.{length-kept}
 
@@ -238,3 +241,36 @@ module _ (number lot : ℕ) where
       go : (b : Bool) → isOwn number lot c ≡ b → (StillOpen m₁ → Seen m₁ (ownTurns number lot ts) m') → Seen m (if b then record { call = c; reply = r } ∷ ownTurns number lot ts else ownTurns number lot ts) m'
       go true o rest = turns (record { long = refl; same = refl }) o w (rest (own-call-keeps (h .1) o w))
       go false o rest = let g = other-agrees (h .1) w o (k .0) in later g (rest (h .0, record { held = g .same ∙ h .1 .held; numbered = h .1 .numbered }))
+
+  back : {m₁ m₂ : List ℕ} → Agree lot m₁ m₂ → Agree lot m₂ m₁
+  back g = record { long = sym (g .long); same = sym (g .same) }
+
+  open-by : {m₁ m₂ : List ℕ} → Agree lot m₁ m₂ → StillOpen m₁ → StillOpen m₂
+  open-by g h = (h .0, record { held = g .same ∙ h .1 .held; numbered = h .1 .numbered })
+
+  still-open : {m m' : List ℕ} {ts : List Turn} → StillOpen m → Seen m ts m' → StillOpen m'
+  still-open h (rests g) = open-by g h
+  still-open h (turns g o w s) = still-open (own-call-keeps (open-by g h .1) o w) s
+
+  same-turns : {m₁ m₂ m₁' m₂' : List ℕ} {ts₁ ts₂ : List Turn} → Agree lot m₁ m₂ → Seen m₁ ts₁ m₁' → Seen m₂ ts₂ m₂' → callsOf ts₂ ≡ callsOf ts₁ → (ts₂ ≡ ts₁) × Agree lot m₁' m₂'
+  unfolding callsOf
+  same-turns g (rests p) (rests q) e = (refl, agrees (agrees (back p) g) q)
+  same-turns g (rests p) (turns q o w s) e = no-way cc
+  same-turns g (turns p o w s) (rests q) e = no-way cc
+  same-turns g (turns {c = c₁} {r = r₁} {ts = ts₁} p o w s) (turns {c = c₂} {r = r₂} {ts = ts₂} q o₂ u t) e =
+      let c : c₂ ≡ c₁ = cc in
+      let next = own-call-same (agrees (agrees (back p) g) q) o w (rw c at u) in
+      let rest = same-turns (next .1) s t cc in
+      (rw (c, next .0, rest .0), rest .1)
+
+  pub isolated : {m₁ m₂ m₁' m₂' : List ℕ} {ts₁ ts₂ : List Turn} → SameOwnCalls number lot m₁ m₂ ts₁ ts₂ → Run m₁ ts₁ m₁' → Run m₂ ts₂ m₂' → AnsweredAlike number lot m₁' m₂' ts₁ ts₂
+  isolated x run₁ run₂ =
+      let there : StillOpen _ = (x .account, x .open-there) in
+      let s₁ = seen there run₁ (x .kept₁) in
+      let same = same-turns (x .agree) s₁ (seen (open-by (x .agree) there) run₂ (x .kept₂)) (x .own-calls) in
+      let there' = still-open there s₁ in
+      record { own-turns = same .0; account = there' .0; open-there = there' .1; agree = same .1 }
+
+  -- .. and so is a drop that follows: it is done in both, and frees the lot, or is refused in both
+  pub drop-alike : {m₁ m₂ m₁' m₂' : List ℕ} {lots : ℕ} {r₁ r₂ : Reply} → Agree lot m₁ m₂ → Step m₁ (drop-account lots lot number) r₁ m₁' → Step m₂ (drop-account lots lot number) r₂ m₂' → (r₂ ≡ r₁) × Agree lot m₁' m₂'
+  drop-alike g (drops u) (drops w) = let s = drops-same g u w in (ap outcome (s .0), s .1)
