@@ -1,3 +1,4 @@
 pub mod Placing
 pub mod Written
 pub mod Isolation
+pub mod Answers

@@ -2,3 +2,4 @@ pub mod Runs
 pub mod Own
 pub mod Holding
 pub mod Written
+pub mod Answers
