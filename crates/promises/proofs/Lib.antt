@@ -2,3 +2,4 @@ pub mod Placing
 pub mod Written
 pub mod Isolation
 pub mod Answers
+pub mod Determined
