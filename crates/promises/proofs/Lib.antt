@@ -1,5 +1,6 @@
 pub mod Placing
 pub mod Written
+pub mod Lots
 pub mod Isolation
 pub mod Answers
 pub mod Determined
