@@ -4,3 +4,4 @@ pub mod Lots
 pub mod Isolation
 pub mod Answers
 pub mod Determined
+pub mod Exist
