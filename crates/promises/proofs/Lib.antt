@@ -5,3 +5,4 @@ pub mod Isolation
 pub mod Answers
 pub mod Determined
 pub mod Exist
+pub mod Wrong

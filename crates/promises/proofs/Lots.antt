@@ -37,11 +37,11 @@ use Rattle.judging.proofs.Sections.{held-fit}
 
 -- ---- a section of so many bytes that begins with x
 
-zeros : ℕ → List ℕ
+pub zeros : ℕ → List ℕ
 zeros zero = []
 zeros (suc n) = 0 ∷ zeros n
 
-length-zeros : (n : ℕ) → length (zeros n) ≡ n
+pub length-zeros : (n : ℕ) → length (zeros n) ≡ n
 unfolding zeros
 length-zeros zero = refl
 length-zeros (suc n) = ap suc (length-zeros n)

@@ -3,3 +3,4 @@ pub mod Own
 pub mod Holding
 pub mod Written
 pub mod Answers
+pub mod Serving
