@@ -6,7 +6,7 @@ use mathlib.Core.List.{List, []}
 use native.Mathlib.Omega.{arith}
 use native.Mathlib.Decide.{decLt}
 use lib.Dec.{eqb}
-use lib.ListN.{length, take, drop, drop-of-length-le}
+use lib.ListN.{length, drop-of-length-le}
 use Rattle.model.specs.Lists.{if_then_else_}
 use Rattle.model.specs.Answers.{refusalNumbers}
 use Rattle.model.specs.declared.Refusal.{Refusal}

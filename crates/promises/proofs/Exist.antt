@@ -1,6 +1,6 @@
 -- Runs exist: at every memory each call has a step, so every sequence of calls is that of a run. Assumes nothing.
-use Prim.Native.Nat.{ℕ, zero, suc, _+_, _*_, _<_, _≤_}
-use mathlib.Core.Path.{_≡_, refl, sym, ap, _∙_}
+use Prim.Native.Nat.{ℕ, zero, suc, _+_, _*_, _≤_}
+use mathlib.Core.Path.{_≡_, refl, sym, ap}
 use mathlib.Core.Bool.{Bool, true, false, not}
 use mathlib.Core.List.{List, [], _∷_, _++_}
 use native.Mathlib.Omega.{arith}
@@ -12,9 +12,8 @@ use Rattle.model.specs.Account.{Account, fresh}
 use Rattle.model.specs.Accepting.{WellFormed}
 use Rattle.model.specs.Taking.{judgeEntry, judge, taken}
 use Rattle.model.specs.Closing.{judgeClose, close, listed}
-use Rattle.model.specs.Image.{image, LONGEST-IMAGE}
-use Rattle.model.specs.declared.Refusal.{Refusal}
-use Rattle.model.specs.declared.Refusal.the-variants.{NoSuchLot, NotThisAccount, WrongLength, TooShort}
+use Rattle.model.specs.Image.{image}
+use Rattle.model.specs.declared.Refusal.the-variants.{NoSuchLot, WrongLength, TooShort}
 use Rattle.model.specs.declared.Outcome.{Outcome}
 use Rattle.model.specs.declared.Outcome.the-variants.{Done, Refused}
 use Rattle.model.specs.declared.Opened.{Opened}
@@ -27,22 +26,21 @@ use Rattle.model.proofs.Tests.{no-way}
 use Rattle.model.proofs.Keeping.{fresh-well-formed, taken-well-formed, closed-well-formed}
 use Rattle.model.proofs.Image.{loads-exactly}
 use Rattle.lot.specs.Layout.{SIZE}
-use Rattle.lot.specs.View.{Lot, free, holds}
+use Rattle.lot.specs.View.{free, holds}
 use Rattle.lot.proofs.Views.{holds-well-formed}
-use Rattle.lots.specs.Memory.{memoryFits, lotFits, lotOf, viewOf, Becomes, OnlyLot, Named, refused, found, named}
+use Rattle.lots.specs.Memory.{memoryFits, lotFits, lotOf, viewOf, Becomes, Named, refused, found, named}
 use Rattle.lots.proofs.Named.{Holder, holder}
 use Rattle.lots.proofs.Parts.{memory-long, lot-inside}
 use Rattle.closing.specs.Closing.{LEAST-LIST, judgeRoom, closeJudged, closeOf}
 use Rattle.epoch.specs.Closed.{pairs}
-use Rattle.standby.specs.Calls.{startAnswer, AllFree, FreedAll, openAnswer, OpenedAs, deliverTo, deliverAnswer, TakenBy, dropFrom, dropAnswer, Freed, Dropped}
+use Rattle.standby.specs.Calls.{AllFree, openAnswer, deliverTo, deliverAnswer, TakenBy, dropFrom, dropAnswer}
 use Rattle.standby.specs.Closing.{closeFrom, closeAnswer, ClosedAs}
 use Rattle.standby.specs.Images.{saveFrom, saveAnswer, SavedIn, loadAnswer, AccountLoaded}
 use Rattle.standby.proofs.Calls.{not-started, is-started, none-yet, one-freed}
 use Rattle.overview.specs.Overview.{overviewAnswer, rowsFor, rowsWith}
 use Rattle.promises.specs.Runs.{Call, start, open-account, deliver, close-epoch, read-record, save-account, load-account, drop-account, overview, Reply, outcome, opened, closed, saved, overviewed, Step, starts, opens, delivers, closes, reads, saves, loads, drops, overviews, Turn, Run, ends, goes}
-use Rattle.promises.specs.Runs as runs
 use Rattle.promises.specs.Own.{callsOf}
-use Rattle.promises.proofs.Placing.{Placed, opened-placed, Loading, loaded-placed}
+use Rattle.promises.proofs.Placing.{Placed, opened-placed, loaded-placed}
 use Rattle.promises.proofs.Lots.{lot-with, lot-freed, becomes}
 
 -- a reply and a memory such that the call's contract holds

@@ -1,19 +1,18 @@
 -- Every well-formed account can stand in a lot. Assumes nothing.
 use Prim.Native.Nat.{ℕ, zero, suc, _+_, _*_, _/_, _%_, _<_, _≤_}
 use mathlib.Core.Path.{_≡_, refl, sym, ap, _∙_}
-use mathlib.Core.Bool.{Bool, true, false}
 use mathlib.Core.List.{List, [], _∷_, _++_, append-nil}
 use native.Mathlib.Omega.{arith}
 use lib.Dec.{eqb}
-use lib.ListN.{length, getD, take, drop, length-append, length-take, length-drop}
+use lib.ListN.{length, getD, drop, length-append, length-take, length-drop}
 use lib.Seq.{getD-drop, take-at, drop-at, drop-drop}
 use borrow.Author.Tests.{leb-true}
-use Rattle.wire.specs.Numbers.{number16, number32, bytes16, bytes32}
+use Rattle.wire.specs.Numbers.{number32, bytes16, bytes32}
 use Rattle.model.specs.Lists.{if_then_else_}
-use Rattle.model.specs.Account.{Record, absent, present, Account, accountFits, freshCounters, heldCount}
+use Rattle.model.specs.Account.{Record, absent, present, Account, accountFits, heldCount}
 use Rattle.model.specs.Accepting.{WellFormed}
 use Rattle.model.specs.Image.{form, stream8, held20, each}
-use Rattle.model.specs.Decoding.{countersOf, itemOf, parse, mine, countersAt, account, formFits}
+use Rattle.model.specs.Decoding.{countersOf, itemOf, parse, mine, countersAt, account}
 use Rattle.model.specs.Section.{items}
 use Rattle.model.proofs.Tests.{nth}
 use Rattle.model.proofs.Buckets.{singles, length-singles, getD-singles}
@@ -25,7 +24,7 @@ use Rattle.lot.specs.Layout.{SIZE, FREE}
 use Rattle.lot.specs.Head.{numbersWith, headBytes}
 use Rattle.lot.specs.View.{Lot, free, recordAt, holds, viewLot}
 use Rattle.lot.specs.declared.Account as numbers
-use Rattle.lot.proofs.Shown.{StreamsShow, PlacesShow, RecordsShow, head-shown}
+use Rattle.lot.proofs.Shown.{StreamsShow, PlacesShow, head-shown}
 use Rattle.lot.proofs.Views.{streams-are}
 use Rattle.writes.specs.Sections.{Sections, overwritten}
 use Rattle.writes.proofs.Changes.{sections-hold}

@@ -1,23 +1,22 @@
 -- Wrong standbys that the contracts shut out: one that refuses everything, one that answers 0 always, one whose deliver does nothing, one that invents a piece count. Assumes nothing.
-use Prim.Native.Nat.{ℕ, suc, _+_, _*_, _%_, _<_, _≤_}
+use Prim.Native.Nat.{ℕ, _+_, _*_, _%_, _≤_}
 use mathlib.Core.Path.{_≡_, refl, sym, ap, _∙_}
 use mathlib.Core.Logic.{_≢_}
-use mathlib.Core.Bool.{Bool, true, false, not}
-use mathlib.Core.Option.{Option, some}
+use mathlib.Core.Bool.{true, false}
+use mathlib.Core.Option.{some}
 use mathlib.Core.List.{List, [], _∷_, _++_}
 use native.Mathlib.Omega.{arith}
-use lib.Dec.{leb, ltb, eqb}
+use lib.Dec.{eqb}
 use lib.ListN.{length, drop}
 use borrow.Author.Tests.{eq-eqb, le-ltb}
 use Rattle.wire.specs.Numbers.{number16, number32}
-use Rattle.model.specs.Lists.{if_then_else_, every, any, filter, upward, sumBelow, bitsOf}
+use Rattle.model.specs.Lists.{every, any, filter, upward, sumBelow}
 use Rattle.model.specs.Entry.{entryOf, fits, fieldsFit, inside, inAccount}
 use Rattle.model.specs.Distance.{distance}
 use Rattle.model.specs.Account.{Account, fresh, accountFits, heldCount}
-use Rattle.model.specs.Accepting.{WellFormed}
-use Rattle.model.specs.Stages.{stageAfter, stageFrom, takes}
+use Rattle.model.specs.Stages.{stageFrom, takes}
 use Rattle.model.specs.Taking.{judge, judgeEntry, stepped, hold, take, taken}
-use Rattle.model.specs.Closing.{missing, judgeClose, upto, verdict, committed, pieces, close, installed, Piece, listed}
+use Rattle.model.specs.Closing.{missing, judgeClose, upto, verdict, committed, pieces, close, installed, listed}
 use Rattle.model.specs.Image.{image}
 use Rattle.model.specs.Decoding.{load}
 use Rattle.model.specs.declared.Entry.{Entry}
@@ -34,9 +33,9 @@ use Rattle.lot.specs.View.{free, holds}
 use Rattle.lot.proofs.Views.{holds-well-formed}
 use Rattle.lots.specs.Memory.{memoryFits, lotFits, viewOf, lotOf, someBelow, lowestBelow, Named, refused, found, named}
 use Rattle.lots.proofs.Named.{holder}
-use Rattle.closing.specs.Closing.{LEAST-LIST, judgeRoom, closeJudged, closeOf}
+use Rattle.closing.specs.Closing.{LEAST-LIST, judgeRoom, closeJudged}
 use Rattle.epoch.specs.Closed.{pairs}
-use Rattle.standby.specs.Calls.{Started, startAnswer, AccountOpened, openAnswer, placeFor, Delivered, deliverTo, deliverAnswer}
+use Rattle.standby.specs.Calls.{Started, startAnswer, AccountOpened, openAnswer, placeFor, Delivered, deliverAnswer}
 use Rattle.standby.specs.Closing.{EpochClosed, closeFrom, closeAnswer}
 use Rattle.promises.specs.Runs.{Call, start, open-account, deliver, close-epoch, Reply, outcome, opened, closed, Step, starts, opens, delivers, closes}
 use Rattle.promises.specs.Written.{isDone}
