@@ -28,7 +28,7 @@ use Rattle.lots.specs.Looks.{lookFrom, looksDamaged, looksOf, findingOf, survey
 use Rattle.standby.specs.Calls.{startAnswer, AllFree, Started, placeFor, openAnswer, readAnswer, dropFrom, dropAnswer, Dropped}
 use Rattle.lots.specs.declared.Finding.the-variants as finding
 use Rattle.lots.proofs.Parts.{memory-long, lot-inside, others-stay}
-use Rattle.lots.proofs.Lowest.{lowest}
+use Rattle.lots.proofs.Lowest.{Lowest, lowest}
 use Rattle.lots.proofs.Named.{finding-refused, finding-found, FoundHere, held-fits}
 
 -- ---- start
@@ -55,14 +55,14 @@ one-freed {m} {m₁} {m₂} i w b = record { long = b .0 .long ∙ w .long; each
 
 -- ---- the lot of a call that opens an account
 
-module _ (m : List ℕ) where
+module _ (m : List ℕ) (lots : ℕ) where
   pub record Placing (i : ℕ) : Type 0 where
+    pub lowest-free : Lowest (λ j. isFree (viewOf m j)) lots i
     pub inside : i * SIZE + SIZE ≤ length m
-    pub was-free : isFree (viewOf m i) ≡ true
 
-  pub placing : (lots number : ℕ) {i : ℕ} → memoryFits lots m ≡ true → placeFor m lots number ≡ InLot i → Placing i
+  pub placing : (number : ℕ) {i : ℕ} → memoryFits lots m ≡ true → placeFor m lots number ≡ InLot i → Placing i
   unfolding placeFor
-  placing lots number {i} there e = go (someBelow (λ j. isOf number (viewOf m j)) lots) (someBelow (λ j. isFree (viewOf m j)) lots) refl e
+  placing number {i} there e = go (someBelow (λ j. isOf number (viewOf m j)) lots) (someBelow (λ j. isFree (viewOf m j)) lots) refl e
     where
       low : ℕ
       low = lowestBelow (λ j. isFree (viewOf m j)) lots
@@ -73,7 +73,7 @@ module _ (m : List ℕ) where
       go false true z e =
           let s : low ≡ i = cc in
           let w = lowest (λ j. isFree (viewOf m j)) lots z in
-          record { inside = omega (arith, memory-long lots m there, w .below); was-free = rw (← s) (w .passes) }
+          rw (← s) (record { lowest-free = w; inside = omega (arith, memory-long lots m there, w .below) })
 
 -- ---- open
 
@@ -116,7 +116,7 @@ module _ (m : List ℕ) (lots number f k : ℕ) where
           let w = placing m lots number x e in
           record {
             inside = w .inside;
-            was-free = w .was-free;
+            was-free = w .lowest-free .passes;
             fits = y;
             small = (omega (arith, leb-true number 65535 (nth _ y 1)), omega (arith, leb-true f 8 (nth _ y 3)), omega (arith, leb-true k 128 (nth _ y 5)));
           }

@@ -5,3 +5,4 @@ pub mod Saving
 pub mod Loading
 pub mod Determined
 pub mod Isolated
+pub mod RoundTrips

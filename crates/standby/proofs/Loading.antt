@@ -1,5 +1,5 @@
 -- What each return of load answers, and what it leaves of the memory. Assumes nothing.
-use Prim.Native.Nat.{ℕ, _+_, _*_, _-_, _≤_}
+use Prim.Native.Nat.{ℕ, _-_}
 use mathlib.Core.Path.{_≡_, refl, sym, ap, _∙_}
 use mathlib.Core.Bool.{Bool, true, false, not}
 use mathlib.Core.Option.{Option, some, none}
@@ -15,11 +15,10 @@ use Rattle.model.proofs.Tests.{no-way}
 use Rattle.trailer.specs.Trailer.{numbersOf}
 use Rattle.trailer.specs.declared.Trailer.{Trailer}
 use Rattle.judging.specs.Judging.{trailerOf, judgedAs, judgedOf}
-use Rattle.judging.specs.declared.Judged.{Judged}
 use Rattle.judging.specs.declared.Judged.the-variants.{NotAccepted, Accepted}
 use Rattle.judging.proofs.Parts.{Bytes}
 use Rattle.judging.proofs.Passing.{lastPart, part-from, accepted-numbers}
-use Rattle.lots.specs.Memory.{memoryFits, viewOf, isDamaged, isFree, someBelow}
+use Rattle.lots.specs.Memory.{memoryFits, viewOf, isDamaged, someBelow}
 use Rattle.lots.specs.Looks.{surveyOf, placeIn}
 use Rattle.standby.specs.Calls.{placeFor}
 use Rattle.standby.specs.Images.{loadFrom, loadAnswer}
@@ -86,7 +85,8 @@ module _ (m : List ℕ) (lots : ℕ) (given : List ℕ) where
 
   -- where data are loaded there is such a lot, and they show an account
   pub record Loading (i : ℕ) : Type 0 where
-    pub place : Placing m i
+    pub there : memoryFits lots m ≡ true
+    pub place : Placing m lots i
     pub account : Account
     pub shows : load given ≡ some account
 
@@ -98,4 +98,4 @@ module _ (m : List ℕ) (lots : ℕ) (given : List ℕ) where
       go false b o x y e = no-way cc
       go true true o x y e = no-way cc
       go true false none x y e = no-way cc
-      go true false (some a) x y e = record { place = placing m lots (a .number) x e; account = a; shows = y }
+      go true false (some a) x y e = record { there = x; place = placing m lots (a .number) x e; account = a; shows = y }

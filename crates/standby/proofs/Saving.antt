@@ -1,23 +1,30 @@
 -- What each return of save answers, and what it leaves of the buffer. Assumes nothing.
 use Prim.Native.Nat.{ℕ, _+_, _*_, _<_, _≤_}
 use mathlib.Core.Path.{_≡_, refl, sym, ap, _∙_}
+use mathlib.Core.Bool.{Bool, true, false}
 use mathlib.Core.List.{List}
-use lib.ListN.{length}
-use borrow.Author.Tests.{lt-ltb, le-ltb}
-use Rattle.model.specs.Image.{LONGEST-IMAGE}
+use lib.Dec.{ltb}
+use lib.ListN.{length, take, drop}
+use lib.Seq.{take-at}
+use borrow.Author.Tests.{eq-eqb, lt-ltb, le-ltb}
+use Rattle.model.specs.Lists.{if_then_else_}
+use Rattle.model.specs.Account.{Account, Named, refused, found}
+use Rattle.model.specs.Image.{image, LONGEST-IMAGE}
 use Rattle.model.specs.declared.Refusal.{Refusal}
 use Rattle.model.specs.declared.Refusal.the-variants.{TooShort}
 use Rattle.model.specs.declared.Saved.the-variants.{Length, NotSaved}
+use Rattle.model.proofs.Tests.{no-way}
 use Rattle.lot.specs.Layout.{SIZE}
+use Rattle.lot.specs.View.{holds}
 use Rattle.lot.specs.declared.Account as numbers
 use Rattle.lot.specs.declared.Look.the-variants.{Holds}
-use Rattle.lots.specs.Memory.{lotOf, viewOf, named}
+use Rattle.lots.specs.Memory.{lotFits, lotOf, viewOf, named}
 use Rattle.lots.specs.Looks.{lookFrom, findingOf}
 use Rattle.lots.specs.declared.Finding.the-variants as finding
 use Rattle.lots.proofs.Parts.{lot-inside}
-use Rattle.lots.proofs.Named.{finding-refused, finding-found, FoundHere}
+use Rattle.lots.proofs.Named.{Holder, holder, finding-refused, finding-found, FoundHere}
 use Rattle.image.specs.Saving.{LotSaved}
-use Rattle.standby.specs.Images.{saveAnswer, AccountSaved}
+use Rattle.standby.specs.Images.{saveFrom, saveAnswer, AccountSaved}
 
 module _ (m : List ℕ) (lots lot number : ℕ) (buffer : List ℕ) where
   pub save-refused : {r : Refusal} → findingOf (named m lots lot number) ≡ finding.Refused r → AccountSaved m lots lot number buffer buffer (NotSaved r)
@@ -44,3 +51,30 @@ module _ (m : List ℕ) (lots lot number : ℕ) (buffer : List ℕ) where
             answer = ap Length (s (w .account) (w .here .held) .answer) ∙ rw (w .is-named, le-ltb (length buffer) LONGEST-IMAGE room);
             saved = λ a v. let q = s a v in rw (q .answer) (q .bytes);
           }
+
+  -- ---- where a save is done, the lot holds the account, and its image is what was written
+
+  pub record SaveDone (n : ℕ) : Type 0 where
+    pub account : Account
+    pub here : Holder m lots lot number account
+    pub long : n ≡ length (image account)
+
+  pub saving : {n : ℕ} → Length n ≡ saveAnswer m lots lot number buffer → SaveDone n
+  unfolding saveAnswer
+  saving {n} e = go (named m lots lot number) refl e
+    where
+      with-room : (a : Account) (short : Bool) → named m lots lot number ≡ found a → Length n ≡ (if short then NotSaved TooShort else Length (length (image a))) → SaveDone n
+      with-room a true q e = no-way cc
+      with-room a false q e = record { account = a; here = holder m lots lot number q; long = cc }
+
+      go : (x : Named) → named m lots lot number ≡ x → Length n ≡ saveFrom x (length buffer) → SaveDone n
+      go (refused r) q e = no-way cc
+      go (found a) q e = with-room a (ltb (length buffer) LONGEST-IMAGE) q e
+
+  pub image-written : {buffer' : List ℕ} {n : ℕ} → AccountSaved m lots lot number buffer buffer' (Length n) → (d : SaveDone n) → take n buffer' ≡ image (d .account)
+  image-written {buffer'} {n} w d = rw (w .saved (d .account) (d .here .held)) (take-at (image (d .account)) (drop n buffer) n (sym (d .long)))
+
+  -- and a save that names an account and the lot that holds it is done, where there is room
+  pub save-with-room : {a : Account} → lotFits lots lot m ≡ true → viewOf m lot ≡ holds a → a .number ≡ number → LONGEST-IMAGE ≤ length buffer → saveAnswer m lots lot number buffer ≡ Length (length (image a))
+  unfolding saveAnswer named
+  save-with-room {a} there held own room = rw (there, held, eq-eqb (a .number) number own, le-ltb (length buffer) LONGEST-IMAGE room)

@@ -1,5 +1,5 @@
 -- `save_in` saves the account of the lot that is lent. Assumes nothing.
-use mathlib.Core.Path.{_∙_, sym}
+use mathlib.Core.Path.{_∙_}
 use native.Mathlib.Omega.{arith}
 use lib.ListN.{length-take, length-drop}
 use Rattle.lots.proofs.Parts.{part-is}
