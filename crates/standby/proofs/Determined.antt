@@ -9,10 +9,13 @@ use Rattle.model.specs.declared.Outcome.{Outcome}
 use Rattle.model.specs.declared.Outcome.the-variants.{Done, Refused}
 use Rattle.model.specs.declared.Opened.{Opened}
 use Rattle.model.specs.declared.Opened.the-variants.{InLot, NotOpened}
+use Rattle.model.specs.declared.Closed.{Closed}
+use Rattle.model.specs.declared.Closed.the-variants.{Pieces, NotClosed}
 use Rattle.model.proofs.Tests.{no-way}
 use Rattle.lot.specs.View.{Lot}
 use Rattle.lots.specs.Memory.{viewOf, OnlyLot, Becomes, Named, refused, found, named}
 use Rattle.standby.specs.Calls.{FreedAll, Started, OpenedAs, AccountOpened, deliverTo, deliverAnswer, TakenBy, Delivered, Freed, Dropped}
+use Rattle.standby.specs.Closing.{closeFrom, closeAnswer, ClosedAs, EpochClosed}
 use Rattle.lots.proofs.Named.{holder}
 
 -- two memories have the same bytes outside lot i, and the same account there
@@ -70,3 +73,45 @@ module _ {m m₁ m₂ : List ℕ} where
       go : (r : Outcome) → Freed m m₁ lot r → Freed m m₂ lot r → SameAfter lot r m₁ m₂
       go Done u w = both-become u w
       go (Refused r) u w = w ∙ sym u
+
+-- ---- close
+
+-- two closes are answered alike, leave the same account in the lot, and write the same list
+pub record ClosedAlike (lot : ℕ) (m₁ m₂ list₁ list₂ : List ℕ) (r₁ r₂ : Closed) : Type 0 where
+  pub answer : r₂ ≡ r₁
+  pub account : viewOf m₂ lot ≡ viewOf m₁ lot
+  pub list : list₂ ≡ list₁
+
+-- closes of one memory, or of two that show the call the same lot
+pub closed-alike : {m n m' n' : List ℕ} {lots lot number : ℕ} {list list₁ list₂ : List ℕ} {r₁ r₂ : Closed}
+    → named n lots lot number ≡ named m lots lot number → viewOf n lot ≡ viewOf m lot
+    → EpochClosed m m' lots lot number list list₁ r₁ → EpochClosed n n' lots lot number list list₂ r₂ → ClosedAlike lot m' n' list₁ list₂ r₁ r₂
+unfolding closeAnswer
+closed-alike {m} {n} {m'} {n'} {lots} {lot} {number} {list} {list₁} {list₂} {r₁} {r₂} e v u w =
+    let s : r₂ ≡ r₁ = w .answer ∙ rw e (sym (u .answer)) in
+    let same = go r₁ (named m lots lot number) refl (u .answer) (u .closed) (rw s at (w .closed)) in
+    record { answer = s; account = same .0; list = same .1 }
+  where
+    go : (r : Closed) (x : Named) → named m lots lot number ≡ x → r ≡ closeFrom x (length list) → ClosedAs m m' lot list list₁ r → ClosedAs n n' lot list list₂ r → (viewOf n' lot ≡ viewOf m' lot) × (list₂ ≡ list₁)
+    go (Pieces count) (refused s) q e u w = no-way cc
+    go (Pieces count) (found a) q e u w =
+        let h = holder m lots lot number q .held in
+        let left₁ = u .1 a h in
+        let left₂ = w .1 a (v ∙ h) in
+        (left₂ .0 ∙ sym (left₁ .0), left₂ .1 ∙ sym (left₁ .1))
+    go (NotClosed r) x q e u w = (rw (w .0, u .0) v, w .1 ∙ sym (u .1))
+
+-- two memories after a close, by the answer
+abbrev pub SameClose : ℕ → Closed → List ℕ → List ℕ → Type 0
+SameClose lot (Pieces count) m₁ m₂ = Alike lot m₁ m₂
+SameClose lot (NotClosed r) m₁ m₂ = m₂ ≡ m₁
+
+pub closed-same : {m m₁ m₂ : List ℕ} {lots lot number : ℕ} {list list₁ list₂ : List ℕ} {r₁ r₂ : Closed}
+    → EpochClosed m m₁ lots lot number list list₁ r₁ → EpochClosed m m₂ lots lot number list list₂ r₂ → (r₂ ≡ r₁) × SameClose lot r₁ m₁ m₂ × (list₂ ≡ list₁)
+closed-same {m} {m₁} {m₂} {lots} {lot} {number} {list} {list₁} {list₂} {r₁} u w =
+    let same = closed-alike refl refl u w in
+    (same .answer, go r₁ (same .account) (u .closed) (rw (same .answer) at (w .closed)), same .list)
+  where
+    go : (r : Closed) → viewOf m₂ lot ≡ viewOf m₁ lot → ClosedAs m m₁ lot list list₁ r → ClosedAs m m₂ lot list list₂ r → SameClose lot r m₁ m₂
+    go (Pieces count) v u w = alike (u .0) (w .0) v
+    go (NotClosed r) v u w = w .0 ∙ sym (u .0)

@@ -8,12 +8,16 @@ use Rattle.model.specs.declared.Outcome.{Outcome}
 use Rattle.model.specs.declared.Outcome.the-variants.{Done, Refused}
 use Rattle.model.specs.declared.Opened.{Opened}
 use Rattle.model.specs.declared.Opened.the-variants.{InLot, NotOpened}
+use Rattle.model.specs.declared.Closed.{Closed}
+use Rattle.model.specs.declared.Closed.the-variants.{Pieces, NotClosed}
 use Rattle.model.proofs.Tests.{no-way}
 use Rattle.lot.specs.View.{viewLot, holds}
 use Rattle.lots.specs.Memory.{memoryFits, lotFits, lotOf, viewOf, named, isFree}
 use Rattle.standby.specs.Calls.{OpenedAs, openAnswer, AccountOpened, deliverAnswer, TakenBy, Delivered, readAnswer, dropAnswer, Freed, Dropped}
+use Rattle.standby.specs.Closing.{closeAnswer, ClosedAs, EpochClosed}
 use Rattle.lots.proofs.Parts.{others-stay}
 use Rattle.standby.proofs.Calls.{opening}
+use Rattle.standby.proofs.Determined.{ClosedAlike, closed-alike}
 
 -- two memories that both fit, or both do not, and that agree on one lot
 pub record SameLot (lots lot : ℕ) (m₁ m₂ : List ℕ) : Type 0 where
@@ -68,3 +72,21 @@ deliver-elsewhere {m} {m'} {lots} {number} {i} lot {bytes} {r} w d = go r (w .ta
     go : (r : Outcome) → TakenBy m m' i bytes r → lotOf m' lot ≡ lotOf m lot
     go Done u = others-stay (u .0) lot d
     go (Refused x) u = rw u
+
+-- ---- close: its answer, the account that it leaves and what it writes in the list go by the own lot
+
+module _ {lots lot : ℕ} {m₁ m₂ : List ℕ} (s : SameLot lots lot m₁ m₂) where
+  pub close-same : (number : ℕ) (list : List ℕ) → closeAnswer m₁ lots lot number list ≡ closeAnswer m₂ lots lot number list
+  unfolding closeAnswer
+  close-same number list = rw (named-same s number)
+
+  pub closes-alike : {number : ℕ} {m₁' m₂' list list₁ list₂ : List ℕ} {r₁ r₂ : Closed}
+      → EpochClosed m₁ m₁' lots lot number list list₁ r₁ → EpochClosed m₂ m₂' lots lot number list list₂ r₂ → ClosedAlike lot m₁' m₂' list₁ list₂ r₁ r₂
+  closes-alike {number} = closed-alike (sym (named-same s number)) (sym (view s))
+
+pub close-elsewhere : {m m' : List ℕ} {lots number i : ℕ} (lot : ℕ) {list list' : List ℕ} {r : Closed} → EpochClosed m m' lots i number list list' r → lot ≢ i → lotOf m' lot ≡ lotOf m lot
+close-elsewhere {m} {m'} {lots} {number} {i} lot {list} {list'} {r} w d = go r (w .closed)
+  where
+    go : (r : Closed) → ClosedAs m m' i list list' r → lotOf m' lot ≡ lotOf m lot
+    go (Pieces count) u = others-stay (u .0) lot d
+    go (NotClosed x) u = rw (u .0)
