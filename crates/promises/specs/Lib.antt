@@ -1,2 +1,3 @@
 pub mod Runs
 pub mod Own
+pub mod Followed

@@ -1,0 +1,175 @@
+-- One account over a run: whatever other calls come between, its lot holds at the end what the entries accepted and the epochs closed make of it in the model, and its closes wrote the model's lists. Assumes nothing.
+use Prim.Native.Nat.{ℕ, _*_}
+use mathlib.Core.Path.{_≡_, refl, sym, ap, _∙_}
+use mathlib.Core.Bool.{Bool, true, false, not, _&&_}
+use mathlib.Core.List.{List, [], _∷_, _++_, append-assoc}
+use lib.Dec.{ltb, eqb}
+use lib.ListN.{length, drop}
+use borrow.Author.Tests.{eqb-true}
+use Rattle.model.specs.Lists.{if_then_else_}
+use Rattle.model.specs.Entry.{LENGTH, entryOf}
+use Rattle.model.specs.Account.{Account, fresh}
+use Rattle.model.specs.Taking as taking
+use Rattle.model.specs.Taking.{judgeEntry, judge}
+use Rattle.model.specs.Closing.{Piece, close, listed, judgeClose}
+use Rattle.model.specs.Runs as model
+use Rattle.model.specs.Runs.{run, lists, Allowed}
+use Rattle.model.specs.declared.Outcome.{Outcome}
+use Rattle.model.specs.declared.Outcome.the-variants.{Done, Refused}
+use Rattle.model.specs.declared.Opened.the-variants.{InLot}
+use Rattle.model.specs.declared.Closed.{Closed}
+use Rattle.model.specs.declared.Closed.the-variants.{Pieces, NotClosed}
+use Rattle.model.specs.declared.Refusal.the-variants.{WrongLength, TooShort}
+use Rattle.model.proofs.Tests.{no-way, and-l, and-r}
+use Rattle.lot.specs.View.{viewLot, holds}
+use Rattle.epoch.specs.Closed.{pairs}
+use Rattle.closing.specs.Closing.{LEAST-LIST, judgeRoom, closeOf, closeJudged}
+use Rattle.lots.specs.Memory.{viewOf, Named, refused, found, named}
+use Rattle.lots.proofs.Named.{holder}
+use Rattle.standby.specs.Calls.{Delivered, deliverTo, deliverAnswer, TakenBy}
+use Rattle.standby.specs.Closing.{EpochClosed, closeFrom, closeAnswer, ClosedAs}
+use Rattle.promises.specs.Runs.{Call, open-account, Reply, opened, Step, starts, opens, delivers, closes, reads, saves, loads, drops, overviews, Turn, Run, ends, goes}
+use Rattle.promises.specs.Own.{taken, closing, doneBy, firstPieces, listing, listedBy, names, isOwn, isEnd, Kept, ownTurns, stepsOf, listsOf}
+use Rattle.promises.specs.Followed.{Followed, OpenedRun}
+use Rattle.promises.proofs.Others.{other-calls-leave}
+
+-- ---- the model's steps, one list after another
+
+run-append : (ss tt : List model.Step) (a : Account) → run (ss ++ tt) a ≡ run tt (run ss a)
+unfolding run
+run-append [] tt a = refl
+run-append (model.taking e ∷ ss) tt a = run-append ss tt (taking.taken e a)
+run-append (model.closing ∷ ss) tt a = run-append ss tt (close a)
+
+lists-append : (ss tt : List model.Step) (a : Account) → lists (ss ++ tt) a ≡ lists ss a ++ lists tt (run ss a)
+unfolding lists run
+lists-append [] tt a = refl
+lists-append (model.taking e ∷ ss) tt a = lists-append ss tt (taking.taken e a)
+lists-append (model.closing ∷ ss) tt a = ap (λ l. listed a ∷ l) (lists-append ss tt (close a))
+
+allowed-append : (ss tt : List model.Step) (a : Account) → Allowed ss a → Allowed tt (run ss a) → Allowed (ss ++ tt) a
+unfolding Allowed run
+allowed-append [] tt a u w = w
+allowed-append (model.taking e ∷ ss) tt a u w = (u .0, allowed-append ss tt (taking.taken e a) (u .1) w)
+allowed-append (model.closing ∷ ss) tt a u w = (u .0, allowed-append ss tt (close a) (u .1) w)
+
+run-number : (ss : List model.Step) (a : Account) → run ss a .number ≡ a .number
+unfolding run taking.taken close
+run-number [] a = refl
+run-number (model.taking e ∷ ss) a = run-number ss (taking.taken e a)
+run-number (model.closing ∷ ss) a = run-number ss (close a)
+
+-- ---- the list of a close, read back
+
+pub pieces-back : (ps : List Piece) (rest : List ℕ) → firstPieces (length ps) (pairs ps ++ rest) ≡ ps
+unfolding firstPieces pairs
+pieces-back [] rest = refl
+pieces-back (p ∷ ps) rest = ap (λ l. p ∷ l) (pieces-back ps rest)
+
+-- ---- one step that names the account and its lot
+
+-- steps and lists that one turn adds
+pub record Adds (lot : ℕ) (ss : List model.Step) (ls : List (List Piece)) (a : Account) (m' : List ℕ) : Type 0 where
+  pub held : viewOf m' lot ≡ holds (run ss a)
+  pub allowed : Allowed ss a
+  pub listed : ls ≡ lists ss a
+
+judged-entry : (a : Account) (entry : List ℕ) → Done ≡ judge a entry → judgeEntry a (entryOf entry) ≡ Done
+unfolding judge
+judged-entry a entry e = go (eqb (length entry) LENGTH) e
+  where
+    go : (b : Bool) → Done ≡ (if not b then Refused WrongLength else judgeEntry a (entryOf entry)) → judgeEntry a (entryOf entry) ≡ Done
+    go false e = no-way cc
+    go true e = sym e
+
+-- a close that is done was possible, and counts the pieces
+pub judged-close : (a : Account) (room : ℕ) {count : ℕ} → Pieces count ≡ closeOf a room → (judgeClose a ≡ Done) × (count ≡ length (listed a))
+unfolding judgeRoom
+judged-close a room {count} e = go (ltb room LEAST-LIST) (judgeClose a) refl e
+  where
+    go : (b : Bool) (o : Outcome) → judgeClose a ≡ o → Pieces count ≡ closeJudged (if b then Refused TooShort else o) (length (listed a)) → (judgeClose a ≡ Done) × (count ≡ length (listed a))
+    go true o q e = no-way cc
+    go false Done q e = (q, cc)
+    go false (Refused r) q e = no-way cc
+
+module _ (m : List ℕ) (lot number : ℕ) {a : Account} (v : viewOf m lot ≡ holds a) where
+  same-account : (lots : ℕ) {b : Account} → named m lots lot number ≡ found b → b ≡ a
+  same-account lots q = cc (holder m lots lot number q .held)
+
+  delivered : {m' : List ℕ} {lots : ℕ} {entry : List ℕ} {r : Outcome} → Delivered m m' lots lot number entry r → Adds lot (taken entry r) [] a m'
+  unfolding deliverAnswer run lists Allowed
+  delivered {m'} {lots} {entry} {r} w = go r (named m lots lot number) refl (w .answer) (w .taken)
+    where
+      go : (r : Outcome) (n : Named) → named m lots lot number ≡ n → r ≡ deliverTo n entry → TakenBy m m' lot entry r → Adds lot (taken entry r) [] a m'
+      go Done (refused s) q e u = no-way cc
+      go Done (found b) q e u = record { held = u .1 a v; allowed = (judged-entry a entry (e ∙ ap (λ c. judge c entry) (same-account lots q)), tt); listed = refl }
+      go (Refused s) n q e u = record { held = rw u v; allowed = tt; listed = refl }
+
+  closed : {m' : List ℕ} {lots : ℕ} {list list' : List ℕ} {r : Closed} → EpochClosed m m' lots lot number list list' r → Adds lot (closing r) (listing r list') a m'
+  unfolding closeAnswer run lists Allowed
+  closed {m'} {lots} {list} {list'} {r} w = go r (named m lots lot number) refl (w .answer) (w .closed)
+    where
+      go : (r : Closed) (n : Named) → named m lots lot number ≡ n → r ≡ closeFrom n (length list) → ClosedAs m m' lot list list' r → Adds lot (closing r) (listing r list') a m'
+      go (Pieces count) (refused s) q e u = no-way cc
+      go (Pieces count) (found b) q e u =
+          let j = judged-close a (length list) (e ∙ ap (λ c. closeOf c (length list)) (same-account lots q)) in
+          record { held = u .1 a v .0; allowed = (j .0, tt); listed = ap (λ l. l ∷ []) (rw (u .1 a v .1, j .1) (pieces-back (listed a) (drop (2 * length (listed a)) list))) }
+      go (NotClosed s) n q e u = record { held = rw (u .0) v; allowed = tt; listed = refl }
+
+  -- the other two write nothing in the memory
+  unchanged : Adds lot [] [] a m
+  unfolding run lists Allowed
+  unchanged = record { held = v; allowed = tt; listed = refl }
+
+named-both : (number lot i n : ℕ) → names number lot i n ≡ true → (i ≡ lot) × (n ≡ number)
+named-both number lot i n e = (eqb-true i lot (and-l (eqb i lot) _ e), eqb-true n number (and-r (eqb i lot) _ e))
+
+own-step : {m m' : List ℕ} (number lot : ℕ) {c : Call} {r : Reply} {a : Account} → Step m c r m' → isOwn number lot c ≡ true → viewOf m lot ≡ holds a → Adds lot (doneBy c r) (listedBy r) a m'
+unfolding isOwn
+own-step number lot (starts w) o v = no-way o
+own-step number lot (opens w) o v = no-way o
+own-step {m} number lot (delivers {lot = i} {number = n} w) o v = delivered m lot number v (let e = named-both number lot i n o in rw (e .0, e .1) at w)
+own-step {m} number lot (closes {lot = i} {number = n} w) o v = closed m lot number v (let e = named-both number lot i n o in rw (e .0, e .1) at w)
+own-step {m} number lot (reads w) o v = unchanged m lot number v
+own-step {m} number lot (saves w) o v = unchanged m lot number v
+own-step number lot (loads w) o v = no-way o
+own-step number lot (drops w) o v = no-way o
+own-step number lot (overviews w) o v = no-way o
+
+-- ---- the whole run
+
+module _ (number lot : ℕ) (c : Call) (r : Reply) {ts : List Turn} {a : Account} {m' : List ℕ} where
+  own-turn : isOwn number lot c ≡ true → Allowed (doneBy c r) a → listedBy r ≡ lists (doneBy c r) a → Followed number lot ts (run (doneBy c r) a) m' → Followed number lot (record { call = c; reply = r } ∷ ts) a m'
+  unfolding ownTurns stepsOf listsOf
+  own-turn o u e w =
+      let ss = stepsOf (ownTurns number lot ts) in
+      let d = doneBy c r in
+      record {
+        held = rw o (w .held ∙ ap holds (sym (run-append d ss a)));
+        allowed = rw o (allowed-append d ss a u (w .allowed));
+        listed = rw o (rw (e, w .listed) (sym (lists-append d ss a)));
+      }
+
+  other-turn : isOwn number lot c ≡ false → Followed number lot ts a m' → Followed number lot (record { call = c; reply = r } ∷ ts) a m'
+  unfolding ownTurns
+  other-turn o w = record { held = rw o (w .held); allowed = rw o (w .allowed); listed = rw o (w .listed) }
+
+-- a run from any memory whose lot holds the account
+pub followed : {m m' : List ℕ} (number lot : ℕ) {ts : List Turn} {a : Account} → Run m ts m' → Kept number lot ts → viewOf m lot ≡ holds a → a .number ≡ number → Followed number lot ts a m'
+unfolding Kept ownTurns stepsOf listsOf run lists Allowed viewOf
+followed number lot ends k v e = record { held = v; allowed = tt; listed = refl }
+followed {m' = m'} number lot {a = a} (goes {m} {m₁} {c = c} {r = r} {ts = ts} s w) k v e = go (isOwn number lot c) refl (λ b x y. followed number lot {a = b} w (k .1) x y)
+  where
+    go : (t : Bool) → isOwn number lot c ≡ t → ((b : Account) → viewOf m₁ lot ≡ holds b → b .number ≡ number → Followed number lot ts b m') → Followed number lot (record { call = c; reply = r } ∷ ts) a m'
+    go true o next =
+        let x = own-step number lot s o v in
+        own-turn number lot c r o (x .allowed) (x .listed) (next (run (doneBy c r) a) (x .held) (run-number (doneBy c r) a ∙ e))
+    go false o next = other-turn number lot c r o (next a (ap viewLot (other-calls-leave lot s v (rw e o) (rw e (k .0))) ∙ v) e)
+
+-- a run that opens it
+pub opened-followed : {number f k lot : ℕ} {rest : List Turn} {m' : List ℕ} → OpenedRun number f k lot rest m' → Followed number lot rest (fresh number f k) m'
+unfolding fresh
+opened-followed {number} {f} {k} {lot} {rest} {m'} w = go (w .runs)
+  where
+    go : Run (w .m) (record { call = open-account (w .lots) number f k; reply = opened (InLot lot) } ∷ rest) m' → Followed number lot rest (fresh number f k) m'
+    go (goes (opens u) us) = followed number lot us (w .kept) (u .opened .1) refl
