@@ -1,2 +1,4 @@
 pub mod Others
+pub mod Answered
 pub mod Following
+pub mod Order

@@ -46,3 +46,8 @@ pub record OpenedRun (number f k lot : ℕ) (rest : List Turn) (m' : List ℕ) :
   pub lots : ℕ
   pub runs : Run m (record { call = open-account lots number f k; reply = opened (InLot lot) } ∷ rest) m'
   pub kept : Kept number lot rest
+
+-- two runs of the account, each in its lot: each stream has had the same entries accepted, and as many epochs are closed
+pub record SameAccepted (number lot₁ lot₂ : ℕ) (ts₁ ts₂ : List Turn) : Type 0 where
+  pub entries : (i : ℕ) → acceptedIn number lot₁ ts₁ i ≡ acceptedIn number lot₂ ts₂ i
+  pub epochs : closesIn number lot₁ ts₁ ≡ closesIn number lot₂ ts₂

@@ -1,0 +1,45 @@
+-- The first half of demand 3 over runs of calls: an account that was opened alike in two runs, and has had the same entries accepted in each stream and as many epochs closed, is the same account, in whichever order the calls came and in whichever lots; the saved images and the lists are equal. Assumes nothing.
+use Prim.Native.Nat.{ℕ}
+use mathlib.Core.Path.{_≡_, sym, ap, _∙_}
+use mathlib.Core.List.{List}
+use lib.ListN.{length, take}
+use Rattle.model.specs.Account.{Account, fresh}
+use Rattle.model.specs.Image.{image}
+use Rattle.model.specs.Runs.{run}
+use Rattle.model.specs.declared.Saved.the-variants.{Length}
+use Rattle.model.proofs.Runs as model
+use Rattle.lot.specs.View.{holds}
+use Rattle.lots.specs.Memory.{viewOf}
+use Rattle.promises.specs.Runs.{save-account, saved, Step, Turn}
+use Rattle.promises.specs.Followed.{stepsIn, listsIn, Followed, OpenedRun, SameAccepted}
+use Rattle.promises.proofs.Answered.{Shows, save-shows}
+use Rattle.promises.proofs.Following.{opened-followed}
+
+-- what two save calls wrote
+pub record SameImage (n₁ n₂ : ℕ) (buffer₁ buffer₂ : List ℕ) : Type 0 where
+  pub long : n₁ ≡ n₂
+  pub bytes : take n₁ buffer₁ ≡ take n₂ buffer₂
+
+pub same-image : {a : Account} {n₁ n₂ : ℕ} {buffer₁ buffer₂ : List ℕ} → Shows a n₁ buffer₁ → Shows a n₂ buffer₂ → SameImage n₁ n₂ buffer₁ buffer₂
+same-image u w = record { long = u .long ∙ sym (w .long); bytes = u .bytes ∙ sym (w .bytes) }
+
+module _ {number f k lot₁ lot₂ : ℕ} {ts₁ ts₂ : List Turn} {m₁ m₂ : List ℕ} (one : OpenedRun number f k lot₁ ts₁ m₁) (other : OpenedRun number f k lot₂ ts₂ m₂) (same : SameAccepted number lot₁ lot₂ ts₁ ts₂) where
+  abbrev one-followed : Followed number lot₁ ts₁ (fresh number f k) m₁
+  one-followed = opened-followed one
+
+  abbrev other-followed : Followed number lot₂ ts₂ (fresh number f k) m₂
+  other-followed = opened-followed other
+
+  same-runs : run (stepsIn number lot₁ ts₁) (fresh number f k) ≡ run (stepsIn number lot₂ ts₂) (fresh number f k)
+  same-runs = model.same-runs _ _ (fresh number f k) (one-followed .allowed) (other-followed .allowed) (same .entries) (same .epochs)
+
+  pub equal-accounts : viewOf m₁ lot₁ ≡ viewOf m₂ lot₂
+  equal-accounts = one-followed .held ∙ ap holds same-runs ∙ sym (other-followed .held)
+
+  pub equal-lists : listsIn number lot₁ ts₁ ≡ listsIn number lot₂ ts₂
+  equal-lists = one-followed .listed ∙ model.same-lists _ _ (fresh number f k) (one-followed .allowed) (other-followed .allowed) (same .entries) (same .epochs) ∙ sym (other-followed .listed)
+
+  -- saves at the ends of the two runs, each with its lot count and its buffer
+  pub equal-images : {lots₁ lots₂ n₁ n₂ : ℕ} {buffer₁ buffer₂ buffer₁' buffer₂' m₁' m₂' : List ℕ}
+      → Step m₁ (save-account lots₁ lot₁ number buffer₁) (saved (Length n₁) buffer₁') m₁' → Step m₂ (save-account lots₂ lot₂ number buffer₂) (saved (Length n₂) buffer₂') m₂' → SameImage n₁ n₂ buffer₁' buffer₂'
+  equal-images {lots₁} {lots₂} s t = same-image (save-shows lots₁ lot₁ number s (one-followed .held ∙ ap holds same-runs)) (save-shows lots₂ lot₂ number t (other-followed .held))
