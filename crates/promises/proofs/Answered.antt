@@ -82,5 +82,8 @@ module _ (m : List ℕ) (lots lot number : ℕ) {a : Account} (v : viewOf m lot 
 pub save-shows : {m m' : List ℕ} (lots lot number : ℕ) {buffer buffer' : List ℕ} {n : ℕ} {a : Account} → Step m (save-account lots lot number buffer) (runs.saved (Length n) buffer') m' → viewOf m lot ≡ holds a → Shows a n buffer'
 save-shows {m} lots lot number (saves w) v = saved-image m lots lot number v w
 
-pub read-answered : {m m' : List ℕ} (lots lot number i key : ℕ) {r : Found} {a : Account} → Step m (read-record lots lot number i key) (runs.found r) m' → viewOf m lot ≡ holds a → (x : Record) → foundOf x ≡ r → Reads a i key x
-read-answered {m} lots lot number i key (reads w) v x e = read-shows m lots lot number v x (e ∙ w)
+pub read-answered : {m m' : List ℕ} (lots lot number i key : ℕ) (x : Record) {a : Account} → Step m (read-record lots lot number i key) (runs.found (foundOf x)) m' → viewOf m lot ≡ holds a → Reads a i key x
+read-answered lots lot number i key x s v = go x s v refl
+  where
+    go : {m m' : List ℕ} (x : Record) {r : Found} {a : Account} → Step m (read-record lots lot number i key) (runs.found r) m' → viewOf m lot ≡ holds a → foundOf x ≡ r → Reads a i key x
+    go {m} x (reads w) v e = read-shows m lots lot number v x (e ∙ w)

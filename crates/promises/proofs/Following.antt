@@ -59,6 +59,12 @@ run-number [] a = refl
 run-number (model.taking e ∷ ss) a = run-number ss (taking.taken e a)
 run-number (model.closing ∷ ss) a = run-number ss (close a)
 
+pub run-fragments : (ss : List model.Step) (a : Account) → run ss a .fragments ≡ a .fragments
+unfolding run taking.taken close
+run-fragments [] a = refl
+run-fragments (model.taking e ∷ ss) a = run-fragments ss (taking.taken e a)
+run-fragments (model.closing ∷ ss) a = run-fragments ss (close a)
+
 -- ---- the list of a close, read back
 
 pub pieces-back : (ps : List Piece) (rest : List ℕ) → firstPieces (length ps) (pairs ps ++ rest) ≡ ps

@@ -2,3 +2,4 @@ pub mod Others
 pub mod Answered
 pub mod Following
 pub mod Order
+pub mod Rules

@@ -1,3 +1,4 @@
 pub mod Runs
 pub mod Own
 pub mod Followed
+pub mod Primary
