@@ -30,8 +30,9 @@ use Rattle.standby.specs.Calls.{Delivered, deliverTo, deliverAnswer, TakenBy}
 use Rattle.standby.specs.Closing.{EpochClosed, closeFrom, closeAnswer, ClosedAs}
 use Rattle.promises.specs.Runs.{Call, open-account, Reply, opened, Step, starts, opens, delivers, closes, reads, saves, loads, drops, overviews, Turn, Run, ends, goes}
 use Rattle.promises.specs.Own.{taken, closing, doneBy, firstPieces, listing, listedBy, names, isOwn, isEnd, Kept, ownTurns, stepsOf, listsOf}
+use Rattle.promises.specs.Holding.{Holding}
 use Rattle.promises.specs.Followed.{Followed, OpenedRun}
-use Rattle.promises.proofs.Others.{other-calls-leave}
+use Rattle.promises.proofs.Isolation.{other-calls-leave}
 
 -- ---- the model's steps, one list after another
 
@@ -160,17 +161,17 @@ module _ (number lot : ℕ) (c : Call) (r : Reply) {ts : List Turn} {a : Account
   unfolding ownTurns
   other-turn o w = record { held = rw o (w .held); allowed = rw o (w .allowed); listed = rw o (w .listed) }
 
--- a run from any memory whose lot holds the account
-pub followed : {m m' : List ℕ} (number lot : ℕ) {ts : List Turn} {a : Account} → Run m ts m' → Kept number lot ts → viewOf m lot ≡ holds a → a .number ≡ number → Followed number lot ts a m'
+-- a run from any memory whose lot holds the account, in which no call starts afresh or drops it there
+pub followed : {m m' : List ℕ} {number lot : ℕ} {ts : List Turn} {a : Account} → Holding number lot m a → Run m ts m' → Kept number lot ts → Followed number lot ts a m'
 unfolding Kept ownTurns stepsOf listsOf run lists Allowed viewOf
-followed number lot ends k v e = record { held = v; allowed = tt; listed = refl }
-followed {m' = m'} number lot {a = a} (goes {m} {m₁} {c = c} {r = r} {ts = ts} s w) k v e = go (isOwn number lot c) refl (λ b x y. followed number lot {a = b} w (k .1) x y)
+followed h ends k = record { held = h .held; allowed = tt; listed = refl }
+followed {m' = m'} {number} {lot} {a = a} h (goes {m} {m₁} {c = c} {r = r} {ts = ts} s w) k = go (isOwn number lot c) refl (λ b x. followed {a = b} x w (k .1))
   where
-    go : (t : Bool) → isOwn number lot c ≡ t → ((b : Account) → viewOf m₁ lot ≡ holds b → b .number ≡ number → Followed number lot ts b m') → Followed number lot (record { call = c; reply = r } ∷ ts) a m'
+    go : (t : Bool) → isOwn number lot c ≡ t → ((b : Account) → Holding number lot m₁ b → Followed number lot ts b m') → Followed number lot (record { call = c; reply = r } ∷ ts) a m'
     go true o next =
-        let x = own-step number lot s o v in
-        own-turn number lot c r o (x .allowed) (x .listed) (next (run (doneBy c r) a) (x .held) (run-number (doneBy c r) a ∙ e))
-    go false o next = other-turn number lot c r o (next a (ap viewLot (other-calls-leave lot s v (rw e o) (rw e (k .0))) ∙ v) e)
+        let x = own-step number lot s o (h .held) in
+        own-turn number lot c r o (x .allowed) (x .listed) (next (run (doneBy c r) a) (record { held = x .held; numbered = run-number (doneBy c r) a ∙ h .numbered }))
+    go false o next = other-turn number lot c r o (next a (record { held = ap viewLot (other-calls-leave h s o (k .0)) ∙ h .held; numbered = h .numbered }))
 
 -- a run that opens it
 pub opened-followed : {number f k lot : ℕ} {rest : List Turn} {m' : List ℕ} → OpenedRun number f k lot rest m' → Followed number lot rest (fresh number f k) m'
@@ -178,4 +179,4 @@ unfolding fresh
 opened-followed {number} {f} {k} {lot} {rest} {m'} w = go (w .runs)
   where
     go : Run (w .m) (record { call = open-account (w .lots) number f k; reply = opened (InLot lot) } ∷ rest) m' → Followed number lot rest (fresh number f k) m'
-    go (goes (opens u) us) = followed number lot us (w .kept) (u .opened .1) refl
+    go (goes (opens u) us) = followed (record { held = u .opened .1; numbered = refl }) us (w .kept)

@@ -1,4 +1,6 @@
-pub mod Others
+pub mod Placing
+pub mod Written
+pub mod Isolation
 pub mod Answered
 pub mod Following
 pub mod Order

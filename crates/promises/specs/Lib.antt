@@ -1,4 +1,6 @@
 pub mod Runs
 pub mod Own
+pub mod Holding
+pub mod Written
 pub mod Followed
 pub mod Primary

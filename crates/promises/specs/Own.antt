@@ -117,3 +117,8 @@ stepsOf (t ∷ ts) = doneBy (t .call) (t .reply) ++ stepsOf ts
 unfoldable pub listsOf : List Turn → List (List Piece)
 listsOf [] = []
 listsOf (t ∷ ts) = listedBy (t .reply) ++ listsOf ts
+
+-- the calls of turns
+unfoldable pub callsOf : List Turn → List Call
+callsOf [] = []
+callsOf (t ∷ ts) = t .call ∷ callsOf ts
