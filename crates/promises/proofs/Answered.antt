@@ -1,5 +1,5 @@
 -- What a save and a read are answered, in terms of the account that the lot holds. Assumes nothing.
-use Prim.Native.Nat.{ℕ, _<_}
+use Prim.Native.Nat.{ℕ}
 use mathlib.Core.Path.{_≡_, refl, sym, ap, _∙_}
 use mathlib.Core.Bool.{Bool, true, false, not, _&&_}
 use mathlib.Core.List.{List}
@@ -22,19 +22,9 @@ use Rattle.lots.specs.Memory.{viewOf, Named, refused, found, named}
 use Rattle.lots.proofs.Named.{holder}
 use Rattle.standby.specs.Calls.{readFrom, readAnswer}
 use Rattle.standby.specs.Images.{saveFrom, saveAnswer, AccountSaved}
+use Rattle.promises.specs.Images.{ImageOf, SameImage, RecordOf}
 use Rattle.promises.specs.Runs as runs
 use Rattle.promises.specs.Runs.{save-account, read-record, Step, saves, reads}
-
--- the first n bytes of a buffer are the image of a
-pub record Shows (a : Account) (n : ℕ) (buffer : List ℕ) : Type 0 where
-  pub long : n ≡ length (image a)
-  pub bytes : take n buffer ≡ image a
-
--- what read shows of a record
-pub record Reads (a : Account) (i key : ℕ) (x : Record) : Type 0 where
-  pub fragment : i < a .fragments
-  pub in-keys : key < a .keys
-  pub value : x ≡ a .at i .records key
 
 -- a record is not a refusal, and is answered as no other
 not-refused : (x : Record) {r : Refusal} {X : Type 0} → foundOf x ≡ NotRead r → X
@@ -48,10 +38,11 @@ same-record (present x) absent e = no-way cc
 same-record (present x) (present y) e = cc
 
 module _ (m : List ℕ) (lots lot number : ℕ) {a : Account} (v : viewOf m lot ≡ holds a) where
-  same-account : {b : Account} → named m lots lot number ≡ found b → b ≡ a
+  -- the account that a call finds there
+  pub same-account : {b : Account} → named m lots lot number ≡ found b → b ≡ a
   same-account q = cc (holder m lots lot number q .held)
 
-  saved-image : {buffer buffer' : List ℕ} {n : ℕ} → AccountSaved m lots lot number buffer buffer' (Length n) → Shows a n buffer'
+  saved-image : {buffer buffer' : List ℕ} {n : ℕ} → AccountSaved m lots lot number buffer buffer' (Length n) → ImageOf a n buffer'
   unfolding saveAnswer
   saved-image {buffer} {buffer'} {n} w = let e : n ≡ length (image a) = go (named m lots lot number) refl (w .answer) in record { long = e; bytes = ap (take n) (w .saved a v) ∙ take-at (image a) (drop n buffer) n (sym e) }
     where
@@ -63,27 +54,30 @@ module _ (m : List ℕ) (lots lot number : ℕ) {a : Account} (v : viewOf m lot 
       go (refused r) q e = no-way cc
       go (found b) q e = found-there b (ltb (length buffer) LONGEST-IMAGE) (same-account q) e
 
-  read-shows : {i key : ℕ} (x : Record) → foundOf x ≡ readAnswer m lots lot number i key → Reads a i key x
+  read-shows : {i key : ℕ} (x : Record) → foundOf x ≡ readAnswer m lots lot number i key → RecordOf a i key x
   unfolding readAnswer
   read-shows {i} {key} x w = go (named m lots lot number) refl w
     where
-      found-there : (b : Account) (t : Bool) → ltb i (b .fragments) && ltb key (b .keys) ≡ t → b ≡ a → foundOf x ≡ (if not t then NotRead OutsideAccount else foundOf (b .at i .records key)) → Reads a i key x
+      found-there : (b : Account) (t : Bool) → ltb i (b .fragments) && ltb key (b .keys) ≡ t → b ≡ a → foundOf x ≡ (if not t then NotRead OutsideAccount else foundOf (b .at i .records key)) → RecordOf a i key x
       found-there b false l q e = not-refused x e
       found-there b true l q e =
           let l' : ltb i (a .fragments) && ltb key (a .keys) ≡ true = rw (← q) l in
-          record { fragment = ltb-true i (a .fragments) (and-l _ _ l'); in-keys = ltb-true key (a .keys) (and-r (ltb i (a .fragments)) _ l'); value = same-record x (b .at i .records key) e ∙ ap (λ c. c .at i .records key) q }
+          record { in-fragments = ltb-true i (a .fragments) (and-l _ _ l'); in-keys = ltb-true key (a .keys) (and-r (ltb i (a .fragments)) _ l'); value = same-record x (b .at i .records key) e ∙ ap (λ c. c .at i .records key) q }
 
-      go : (n : Named) → named m lots lot number ≡ n → foundOf x ≡ readFrom n i key → Reads a i key x
+      go : (n : Named) → named m lots lot number ≡ n → foundOf x ≡ readFrom n i key → RecordOf a i key x
       go (refused r) q e = not-refused x e
       go (found b) q e = found-there b (ltb i (b .fragments) && ltb key (b .keys)) refl (same-account q) e
 
 -- ---- as steps of a run
 
-pub save-shows : {m m' : List ℕ} (lots lot number : ℕ) {buffer buffer' : List ℕ} {n : ℕ} {a : Account} → Step m (save-account lots lot number buffer) (runs.saved (Length n) buffer') m' → viewOf m lot ≡ holds a → Shows a n buffer'
+pub save-shows : {m m' : List ℕ} (lots lot number : ℕ) {buffer buffer' : List ℕ} {n : ℕ} {a : Account} → Step m (save-account lots lot number buffer) (runs.saved (Length n) buffer') m' → viewOf m lot ≡ holds a → ImageOf a n buffer'
 save-shows {m} lots lot number (saves w) v = saved-image m lots lot number v w
 
-pub read-answered : {m m' : List ℕ} (lots lot number i key : ℕ) (x : Record) {a : Account} → Step m (read-record lots lot number i key) (runs.found (foundOf x)) m' → viewOf m lot ≡ holds a → Reads a i key x
+pub same-image : {a : Account} {n₁ n₂ : ℕ} {buffer₁ buffer₂ : List ℕ} → ImageOf a n₁ buffer₁ → ImageOf a n₂ buffer₂ → SameImage n₁ n₂ buffer₁ buffer₂
+same-image u w = record { long = u .long ∙ sym (w .long); bytes = u .bytes ∙ sym (w .bytes) }
+
+pub read-answered : {m m' : List ℕ} (lots lot number i key : ℕ) (x : Record) {a : Account} → Step m (read-record lots lot number i key) (runs.found (foundOf x)) m' → viewOf m lot ≡ holds a → RecordOf a i key x
 read-answered lots lot number i key x s v = go x s v refl
   where
-    go : {m m' : List ℕ} (x : Record) {r : Found} {a : Account} → Step m (read-record lots lot number i key) (runs.found r) m' → viewOf m lot ≡ holds a → foundOf x ≡ r → Reads a i key x
+    go : {m m' : List ℕ} (x : Record) {r : Found} {a : Account} → Step m (read-record lots lot number i key) (runs.found r) m' → viewOf m lot ≡ holds a → foundOf x ≡ r → RecordOf a i key x
     go {m} x (reads w) v e = read-shows m lots lot number v x (e ∙ w)

@@ -25,13 +25,13 @@ use Rattle.lot.specs.View.{viewLot, holds}
 use Rattle.epoch.specs.Closed.{pairs}
 use Rattle.closing.specs.Closing.{LEAST-LIST, judgeRoom, closeOf, closeJudged}
 use Rattle.lots.specs.Memory.{viewOf, Named, refused, found, named}
-use Rattle.lots.proofs.Named.{holder}
 use Rattle.standby.specs.Calls.{Delivered, deliverTo, deliverAnswer, TakenBy}
 use Rattle.standby.specs.Closing.{EpochClosed, closeFrom, closeAnswer, ClosedAs}
 use Rattle.promises.specs.Runs.{Call, open-account, Reply, opened, Step, starts, opens, delivers, closes, reads, saves, loads, drops, overviews, Turn, Run, ends, goes}
 use Rattle.promises.specs.Own.{taken, closing, doneBy, firstPieces, listing, listedBy, names, isOwn, isEnd, Kept, ownTurns, stepsOf, listsOf}
 use Rattle.promises.specs.Holding.{Holding}
 use Rattle.promises.specs.Followed.{Followed, OpenedRun}
+use Rattle.promises.proofs.Answered.{same-account}
 use Rattle.promises.proofs.Isolation.{other-calls-leave}
 
 -- ---- the model's steps, one list after another
@@ -54,7 +54,7 @@ allowed-append [] tt a u w = w
 allowed-append (model.taking e ∷ ss) tt a u w = (u .0, allowed-append ss tt (taking.taken e a) (u .1) w)
 allowed-append (model.closing ∷ ss) tt a u w = (u .0, allowed-append ss tt (close a) (u .1) w)
 
-run-number : (ss : List model.Step) (a : Account) → run ss a .number ≡ a .number
+pub run-number : (ss : List model.Step) (a : Account) → run ss a .number ≡ a .number
 unfolding run taking.taken close
 run-number [] a = refl
 run-number (model.taking e ∷ ss) a = run-number ss (taking.taken e a)
@@ -100,16 +100,13 @@ judged-close a room {count} e = go (ltb room LEAST-LIST) (judgeClose a) refl e
     go false (Refused r) q e = no-way cc
 
 module _ (m : List ℕ) (lot number : ℕ) {a : Account} (v : viewOf m lot ≡ holds a) where
-  same-account : (lots : ℕ) {b : Account} → named m lots lot number ≡ found b → b ≡ a
-  same-account lots q = cc (holder m lots lot number q .held)
-
   delivered : {m' : List ℕ} {lots : ℕ} {entry : List ℕ} {r : Outcome} → Delivered m m' lots lot number entry r → Adds lot (taken entry r) [] a m'
   unfolding deliverAnswer run lists Allowed
   delivered {m'} {lots} {entry} {r} w = go r (named m lots lot number) refl (w .answer) (w .taken)
     where
       go : (r : Outcome) (n : Named) → named m lots lot number ≡ n → r ≡ deliverTo n entry → TakenBy m m' lot entry r → Adds lot (taken entry r) [] a m'
       go Done (refused s) q e u = no-way cc
-      go Done (found b) q e u = record { held = u .1 a v; allowed = (judged-entry a entry (e ∙ ap (λ c. judge c entry) (same-account lots q)), tt); listed = refl }
+      go Done (found b) q e u = record { held = u .1 a v; allowed = (judged-entry a entry (e ∙ ap (λ c. judge c entry) (same-account m lots lot number v q)), tt); listed = refl }
       go (Refused s) n q e u = record { held = rw u v; allowed = tt; listed = refl }
 
   closed : {m' : List ℕ} {lots : ℕ} {list list' : List ℕ} {r : Closed} → EpochClosed m m' lots lot number list list' r → Adds lot (closing r) (listing r list') a m'
@@ -119,7 +116,7 @@ module _ (m : List ℕ) (lot number : ℕ) {a : Account} (v : viewOf m lot ≡ h
       go : (r : Closed) (n : Named) → named m lots lot number ≡ n → r ≡ closeFrom n (length list) → ClosedAs m m' lot list list' r → Adds lot (closing r) (listing r list') a m'
       go (Pieces count) (refused s) q e u = no-way cc
       go (Pieces count) (found b) q e u =
-          let j = judged-close a (length list) (e ∙ ap (λ c. closeOf c (length list)) (same-account lots q)) in
+          let j = judged-close a (length list) (e ∙ ap (λ c. closeOf c (length list)) (same-account m lots lot number v q)) in
           record { held = u .1 a v .0; allowed = (j .0, tt); listed = ap (λ l. l ∷ []) (rw (u .1 a v .1, j .1) (pieces-back (listed a) (drop (2 * length (listed a)) list))) }
       go (NotClosed s) n q e u = record { held = rw (u .0) v; allowed = tt; listed = refl }
 

@@ -5,3 +5,4 @@ pub mod Answered
 pub mod Following
 pub mod Order
 pub mod Rules
+pub mod Closes

@@ -11,17 +11,10 @@ use Rattle.model.proofs.Runs as model
 use Rattle.lot.specs.View.{holds}
 use Rattle.lots.specs.Memory.{viewOf}
 use Rattle.promises.specs.Runs.{save-account, saved, Step, Turn}
+use Rattle.promises.specs.Images.{SameImage}
 use Rattle.promises.specs.Followed.{stepsIn, listsIn, Followed, OpenedRun, SameAccepted}
-use Rattle.promises.proofs.Answered.{Shows, save-shows}
+use Rattle.promises.proofs.Answered.{save-shows, same-image}
 use Rattle.promises.proofs.Following.{opened-followed}
-
--- what two save calls wrote
-pub record SameImage (n₁ n₂ : ℕ) (buffer₁ buffer₂ : List ℕ) : Type 0 where
-  pub long : n₁ ≡ n₂
-  pub bytes : take n₁ buffer₁ ≡ take n₂ buffer₂
-
-pub same-image : {a : Account} {n₁ n₂ : ℕ} {buffer₁ buffer₂ : List ℕ} → Shows a n₁ buffer₁ → Shows a n₂ buffer₂ → SameImage n₁ n₂ buffer₁ buffer₂
-same-image u w = record { long = u .long ∙ sym (w .long); bytes = u .bytes ∙ sym (w .bytes) }
 
 module _ {number f k lot₁ lot₂ : ℕ} {ts₁ ts₂ : List Turn} {m₁ m₂ : List ℕ} (one : OpenedRun number f k lot₁ ts₁ m₁) (other : OpenedRun number f k lot₂ ts₂ m₂) (same : SameAccepted number lot₁ lot₂ ts₁ ts₂) where
   abbrev one-followed : Followed number lot₁ ts₁ (fresh number f k) m₁

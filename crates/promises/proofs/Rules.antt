@@ -23,7 +23,7 @@ use Rattle.lot.specs.Writing.{foundOf}
 use Rattle.promises.specs.Runs.{read-record, found, Step, Turn}
 use Rattle.promises.specs.Followed.{stepsIn, acceptedIn, listsIn, Followed, OpenedRun}
 use Rattle.promises.specs.Primary.{FollowsPrimary, WritesInstalled, LatestWrite, never-written, last-written}
-use Rattle.promises.proofs.Answered.{Reads, read-answered}
+use Rattle.promises.proofs.Answered.{read-answered}
 use Rattle.promises.proofs.Following.{run-fragments, opened-followed}
 
 -- ---- the last entry of a stream that passes a test
@@ -103,7 +103,7 @@ module _ {number f k lot : ℕ} {ts : List Turn} {m' : List ℕ} {wrote : ℕ �
   unfolding fresh
   read-is {lots} {i} {key} x s =
       let a = read-answered lots lot number i key x s (W .held) in
-      let l : i < f = omega (arith, a .fragment, run-fragments (stepsIn number lot ts) (fresh number f k)) in
+      let l : i < f = omega (arith, a .in-fragments, run-fragments (stepsIn number lot ts) (fresh number f k)) in
       a .value ∙ model.latest-write F i key l ∙ ap (λ ls. afterWrites (isInstalled ls i) key (inEpochs 1 (acceptedIn number lot ts i)) absent) (sym (W .listed))
 
   -- what a read at the end of the run is answered

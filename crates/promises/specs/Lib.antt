@@ -4,3 +4,5 @@ pub mod Holding
 pub mod Written
 pub mod Followed
 pub mod Primary
+pub mod Images
+pub mod Closes
