@@ -6,3 +6,4 @@ pub mod Following
 pub mod Order
 pub mod Rules
 pub mod Closes
+pub mod Lots
