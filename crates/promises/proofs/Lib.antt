@@ -7,3 +7,5 @@ pub mod Order
 pub mod Rules
 pub mod Closes
 pub mod Lots
+pub mod Reached
+pub mod Worked

@@ -1,0 +1,161 @@
+-- Whatever the model allows can be had by calls: from any memory in which an account can be opened there is a run that opens it, has these entries accepted and closes these epochs, in this order. So the premises of demand 3 can be met. Assumes nothing.
+use Prim.Native.Nat.{ℕ, _+_, _*_, _-_, _/_, _%_, _≤_}
+use mathlib.Core.Path.{_≡_, refl, sym, ap, _∙_}
+use mathlib.Core.Bool.{Bool, true, false}
+use mathlib.Core.List.{List, [], _∷_, _++_}
+use native.Mathlib.Omega.{arith}
+use lib.Dec.{ltb, eqb}
+use lib.ListN.{length, take, drop, replicate, length-take, length-drop}
+use borrow.Author.Tests.{eq-eqb, lt-ltb}
+use Rattle.wire.specs.Numbers.{number16, number32, bytes16, bytes32}
+use Rattle.model.specs.Lists.{if_then_else_}
+use Rattle.model.specs.Entry.{LENGTH, entryOf}
+use Rattle.model.specs.Account.{Account, fresh, accountFits}
+use Rattle.model.specs.Accepting.{WellFormed}
+use Rattle.model.specs.Taking as taking
+use Rattle.model.specs.Taking.{judgeEntry, judge}
+use Rattle.model.specs.Closing.{judgeClose, close, listed}
+use Rattle.model.specs.Runs as model
+use Rattle.model.specs.Runs.{Allowed}
+use Rattle.model.specs.declared.Entry.{Entry}
+use Rattle.model.specs.declared.Outcome.the-variants.{Done}
+use Rattle.model.specs.declared.Opened.the-variants.{InLot}
+use Rattle.model.specs.declared.Closed.the-variants.{Pieces}
+use Rattle.model.proofs.Tests.{and}
+use Rattle.model.proofs.Keeping.{fresh-well-formed, taken-well-formed, closed-well-formed}
+use Rattle.lot.specs.Layout.{SIZE}
+use Rattle.lot.specs.View.{holds}
+use Rattle.lot.proofs.Views.{holds-well-formed}
+use Rattle.epoch.specs.Closed.{pairs}
+use Rattle.closing.specs.Closing.{closeOf, closeJudged, judgeRoom}
+use Rattle.lots.specs.Memory.{memoryFits, lotFits, lotOf, viewOf, OnlyLot, Becomes, accountIn, named, found}
+use Rattle.lots.proofs.Parts.{lot-inside, part, left, lent}
+use Rattle.standby.specs.Calls.{openAnswer, AccountOpened, deliverAnswer, Delivered}
+use Rattle.standby.specs.Closing.{closeAnswer, EpochClosed}
+use Rattle.promises.specs.Runs.{open-account, deliver, close-epoch, outcome, opened, closed, Step, opens, delivers, closes, Turn, Run, ends, goes}
+use Rattle.promises.specs.Own.{names, isOwn, isEnd, Kept, ownTurns, stepsOf}
+use Rattle.promises.specs.Holding.{Holding}
+use Rattle.promises.specs.Followed.{stepsIn, OpenedRun}
+use Rattle.promises.proofs.Placing.{opened-placed}
+use Rattle.promises.proofs.Lots.{lotFor, lot-long, lot-holds}
+
+-- ---- the sixteen bytes of an entry
+
+unfoldable pub entry16 : Entry → List ℕ
+entry16 e = e .kind ∷ e .fragment ∷ (bytes16 (e .sequence) ++ (bytes32 (e .transaction) ++ (bytes16 (e .argument) ++ (bytes16 (e .spare) ++ bytes32 (e .value)))))
+
+two : (v : ℕ) → v % 256 + 256 * (v / 256) ≡ v
+two v = omega arith
+
+four : (v : ℕ) → v % 256 + 256 * (v / 256 % 256) + 65536 * (v / 65536 % 256) + 16777216 * (v / 16777216) ≡ v
+four v = omega arith
+
+pub entry-back : (e : Entry) → entryOf (entry16 e) ≡ e
+unfolding entryOf entry16 bytes16 bytes32 number16 number32
+entry-back e = λ i. record { kind = e .kind; fragment = e .fragment; sequence = two (e .sequence) i; transaction = four (e .transaction) i; argument = two (e .argument) i; spare = two (e .spare) i; value = four (e .value) i }
+
+entry-long : (e : Entry) → length (entry16 e) ≡ LENGTH
+unfolding entry16 bytes16 bytes32
+entry-long e = refl
+
+-- ---- one step
+
+-- a memory in which lot i has become one that holds a
+pub becoming : (m : List ℕ) (i : ℕ) → i * SIZE + SIZE ≤ length m → (a : Account) → WellFormed a → (m' : List ℕ) × Becomes i m m' (holds a)
+becoming m i inside a w =
+    let z : i * SIZE + SIZE - i * SIZE ≡ SIZE = omega arith in
+    let kept : length (lotFor a) ≡ length (part m i) = lot-long a w ∙ sym (rw z (simp (length-take, length-drop) (omega arith))) in
+    (left m i (lotFor a) inside kept, lent m i (lotFor a) inside kept (lot-holds a w))
+
+-- the account stands in its lot, and there is such a lot
+pub record Ready (number lots lot : ℕ) (m : List ℕ) (a : Account) : Type 0 where
+  pub there : lotFits lots lot m ≡ true
+  pub here : Holding number lot m a
+
+still-there : (lots lot : ℕ) (m m' : List ℕ) → length m' ≡ length m → lotFits lots lot m ≡ true → lotFits lots lot m' ≡ true
+unfolding lotFits memoryFits
+still-there lots lot m m' e t = rw e t
+
+module _ {number lots lot : ℕ} {m : List ℕ} {a : Account} (r : Ready number lots lot m a) where
+  is-found : named m lots lot number ≡ found a
+  unfolding named
+  is-found = rw (r .there, r .here .held, eq-eqb (a .number) number (r .here .numbered))
+
+  is-well-formed : WellFormed a
+  unfolding viewOf
+  is-well-formed = holds-well-formed (lotOf m lot) (r .here .held)
+
+  same-account : (c : Account) → viewOf m lot ≡ holds c → a ≡ c
+  same-account c v = cc (r .here .held)
+
+  ready-after : {b : Account} {m' : List ℕ} → Becomes lot m m' (holds b) → b .number ≡ a .number → Ready number lots lot m' b
+  ready-after {b} {m'} w e = record { there = still-there lots lot m m' (w .0 .long) (r .there); here = record { held = w .1; numbered = e ∙ r .here .numbered } }
+
+  does-deliver : (e : Entry) {m' : List ℕ} → judgeEntry a e ≡ Done → Becomes lot m m' (holds (taking.taken e a)) → Delivered m m' lots lot number (entry16 e) Done
+  unfolding deliverAnswer judge
+  does-deliver e j w = record { answer = rw (is-found, entry-long e, entry-back e, j); taken = (w .0, λ c v. w .1 ∙ rw (← same-account c v, entry-back e)) }
+
+  can-deliver : (e : Entry) → judgeEntry a e ≡ Done → (m' : List ℕ) × Step m (deliver lots lot number (entry16 e)) (outcome Done) m' × Ready number lots lot m' (taking.taken e a)
+  unfolding taking.taken
+  can-deliver e j =
+      let b = becoming m lot (lot-inside lots lot m (r .there)) (taking.taken e a) (taken-well-formed e is-well-formed j) in
+      (b .0, delivers (does-deliver e j (b .1)), ready-after (b .1) refl)
+
+  -- close is lent a list of 512 zeros
+  abbrev before : List ℕ
+  before = replicate 512 0
+
+  abbrev after : List ℕ
+  after = pairs (listed a) ++ drop (2 * length (listed a)) before
+
+  does-close : {m' : List ℕ} → judgeClose a ≡ Done → Becomes lot m m' (holds (close a)) → EpochClosed m m' lots lot number before after (Pieces (length (listed a)))
+  unfolding closeAnswer judgeRoom
+  does-close j w = record { answer = rw (is-found, j); closed = (w .0, λ c v. (w .1 ∙ rw (← same-account c v), rw (← same-account c v))) }
+
+  can-close : judgeClose a ≡ Done → (m' : List ℕ) × Step m (close-epoch lots lot number before) (closed (Pieces (length (listed a))) after) m' × Ready number lots lot m' (close a)
+  unfolding close
+  can-close j =
+      let b = becoming m lot (lot-inside lots lot m (r .there)) (close a) (closed-well-formed is-well-formed j) in
+      (b .0, closes (does-close j (b .1)), ready-after (b .1) refl)
+
+-- ---- a whole run
+
+-- a run whose calls of this account had these entries accepted and these epochs closed
+pub record Reached (number lot : ℕ) (ss : List model.Step) (m : List ℕ) : Type 0 where
+  pub turns : List Turn
+  pub after : List ℕ
+  pub runs : Run m turns after
+  pub kept : Kept number lot turns
+  pub steps : stepsIn number lot turns ≡ ss
+
+module _ (number lots lot : ℕ) where
+  own-call : names number lot lot number ≡ true
+  own-call = rw (eq-eqb lot lot refl, eq-eqb number number refl)
+
+  pub reach : (ss : List model.Step) {a : Account} {m : List ℕ} → Ready number lots lot m a → Allowed ss a → Reached number lot ss m
+  unfolding Allowed Kept isOwn isEnd ownTurns stepsOf
+  reach [] {m = m} r l = record { turns = []; after = m; runs = ends; kept = tt; steps = refl }
+  reach (model.taking e ∷ ss) r l =
+      let s = can-deliver r e (l .0) in
+      let w = reach ss (s .2) (l .1) in
+      record { turns = record { call = deliver lots lot number (entry16 e); reply = outcome Done } ∷ w .turns; after = w .after; runs = goes (s .1) (w .runs); kept = (refl, w .kept); steps = rw (own-call, entry-back e, w .steps) }
+  reach (model.closing ∷ ss) r l =
+      let s = can-close r (l .0) in
+      let w = reach ss (s .2) (l .1) in
+      record { turns = record { call = close-epoch lots lot number (before r); reply = closed (Pieces (length (listed _))) (after r) } ∷ w .turns; after = w .after; runs = goes (s .1) (w .runs); kept = (refl, w .kept); steps = rw (own-call, w .steps) }
+
+-- an opening that is answered this lot, and then the entries and closes
+pub record ReachedRun (number f k lot : ℕ) (ss : List model.Step) : Type 0 where
+  pub turns : List Turn
+  pub after : List ℕ
+  pub opened-run : OpenedRun number f k lot turns after
+  pub steps : stepsIn number lot turns ≡ ss
+
+pub every-run : (m : List ℕ) (number f k lots lot : ℕ) (ss : List model.Step) → InLot lot ≡ openAnswer m lots number f k → Allowed ss (fresh number f k) → ReachedRun number f k lot ss
+unfolding fresh lotFits
+every-run m number f k lots lot ss e l =
+    let p = opened-placed m lots number f k e in
+    let there : lotFits lots lot m ≡ true = and (p .0 .fits) (lt-ltb lot lots (p .0 .there)) in
+    let b = becoming m lot (lot-inside lots lot m there) (fresh number f k) (fresh-well-formed number f k (p .1)) in
+    let w = reach number lots lot ss (record { there = still-there lots lot m (b .0) (b .1 .0 .long) there; here = record { held = b .1 .1; numbered = refl } }) l in
+    record { turns = w .turns; after = w .after; opened-run = record { m = m; lots = lots; runs = goes (opens (record { answer = e; opened = b .1 })) (w .runs); kept = w .kept }; steps = w .steps }
