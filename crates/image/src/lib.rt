@@ -18,6 +18,9 @@ use lot::Account;
 use model::Found;
 use trailer::Trailer;
 
+// The longest image of any account.
+pub const LONGEST: usize = 13400;
+
 // ---- saving; each function writes from an index on, and answers the index behind what it wrote
 
 fn save_bytes(from: &[u8], image: &mut [u8], at: usize) -> usize

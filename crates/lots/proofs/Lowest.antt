@@ -1,7 +1,7 @@
 -- The lowest number that passes: it is below the end, it passes, and none before it does. Assumes nothing.
 use Prim.Native.Nat.{ℕ, zero, suc, _<_}
 use mathlib.Core.Path.{_≡_, refl}
-use mathlib.Core.Bool.{Bool, true, false, _||_}
+use mathlib.Core.Bool.{Bool, true, false, _||_, or-true}
 use native.Mathlib.Omega.{arith}
 use native.Mathlib.Decide.{decLt}
 use Rattle.model.specs.Lists.{if_then_else_}
@@ -23,6 +23,20 @@ module _ (p : ℕ → Bool) where
       go true b x y z d ih = no-way cc
       go false b x y z (yes l) ih = ih x j l
       go false b x y z (no l) ih = let w : j ≡ n = omega arith in rw w cc
+
+  pub none-passes : (n : ℕ) → ((j : ℕ) → j < n → p j ≡ false) → someBelow p n ≡ false
+  unfolding someBelow
+  none-passes zero h = refl
+  none-passes (suc n) h = rw (none-passes n (λ j l. h j (omega arith)), h n (omega arith))
+
+  pub one-passes : (n j : ℕ) → j < n → p j ≡ true → someBelow p n ≡ true
+  unfolding someBelow
+  one-passes zero j h e = absurd (omega arith)
+  one-passes (suc n) j h e = go (decLt j n) (one-passes n j)
+    where
+      go : Dec (j < n) → (j < n → p j ≡ true → someBelow p n ≡ true) → (someBelow p n || p n) ≡ true
+      go (yes l) ih = rw (ih l e)
+      go (no l) ih = let w : n ≡ j = omega arith in rw (w, e, or-true)
 
   pub lowest : (n : ℕ) → someBelow p n ≡ true → Lowest n (lowestBelow p n)
   unfolding someBelow lowestBelow

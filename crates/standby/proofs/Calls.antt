@@ -28,7 +28,7 @@ use Rattle.lots.specs.Looks.{lookFrom, looksDamaged, looksOf, findingOf, survey
 use Rattle.standby.specs.Calls.{startAnswer, AllFree, Started, placeFor, openAnswer, readAnswer, dropFrom, dropAnswer, Dropped}
 use Rattle.lots.specs.declared.Finding.the-variants as finding
 use Rattle.lots.proofs.Parts.{memory-long, lot-inside, others-stay}
-use Rattle.lots.proofs.Lowest.{lowest}
+use Rattle.lots.proofs.Lowest.{Lowest, lowest}
 use Rattle.lots.proofs.Named.{finding-refused, finding-found, FoundHere, held-fits}
 
 -- ---- start
@@ -52,6 +52,28 @@ one-freed {m} {m₁} {m₂} i w b = record { long = b .0 .long ∙ w .long; each
     go : (j : ℕ) → j < i + 1 → Dec (j < i) → viewOf m₂ j ≡ free
     go j h (yes l) = ap viewLot (others-stay (b .0) j (λ e. omega arith)) ∙ w .each j l
     go j h (no l) = let e : j ≡ i = omega arith in rw e (b .1)
+
+-- ---- the lot of a call that opens an account
+
+module _ (m : List ℕ) (lots : ℕ) where
+  pub record Placing (i : ℕ) : Type 0 where
+    pub lowest-free : Lowest (λ j. isFree (viewOf m j)) lots i
+    pub inside : i * SIZE + SIZE ≤ length m
+
+  pub placing : (number : ℕ) {i : ℕ} → memoryFits lots m ≡ true → placeFor m lots number ≡ InLot i → Placing i
+  unfolding placeFor
+  placing number {i} there e = go (someBelow (λ j. isOf number (viewOf m j)) lots) (someBelow (λ j. isFree (viewOf m j)) lots) refl e
+    where
+      low : ℕ
+      low = lowestBelow (λ j. isFree (viewOf m j)) lots
+
+      go : (d s : Bool) → someBelow (λ j. isFree (viewOf m j)) lots ≡ s → (if d then NotOpened AlreadyOpen else if s then InLot low else NotOpened NoFreeLot) ≡ InLot i → Placing i
+      go true s z e = no-way cc
+      go false false z e = no-way cc
+      go false true z e =
+          let s : low ≡ i = cc in
+          let w = lowest (λ j. isFree (viewOf m j)) lots z in
+          rw (← s) (record { lowest-free = w; inside = omega (arith, memory-long lots m there, w .below) })
 
 -- ---- open
 
@@ -82,27 +104,19 @@ module _ (m : List ℕ) (lots number f k : ℕ) where
     pub small : (number < 2 ^ 16) × (f < 2 ^ 8) × (k < 2 ^ 16)
 
   pub opening : {i : ℕ} {r : Opened} → r ≡ openAnswer m lots number f k → r ≡ InLot i → Opening i
-  unfolding openAnswer placeFor accountFits
-  opening {i} q e =
-      go (memoryFits lots m) (someBelow (λ j. isDamaged (viewOf m j)) lots) (accountFits number f k) (someBelow (λ j. isOf number (viewOf m j)) lots) (someBelow (λ j. isFree (viewOf m j)) lots)
-      refl refl refl (sym q ∙ e)
+  unfolding openAnswer accountFits
+  opening {i} q e = go (memoryFits lots m) (someBelow (λ j. isDamaged (viewOf m j)) lots) (accountFits number f k) refl refl (sym q ∙ e)
     where
-      low : ℕ
-      low = lowestBelow (λ j. isFree (viewOf m j)) lots
-
-      go : (a b c d s : Bool) → memoryFits lots m ≡ a → accountFits number f k ≡ c → someBelow (λ j. isFree (viewOf m j)) lots ≡ s
-          → (if not a then NotOpened NoSuchLot else if b then NotOpened Damaged else if not c then NotOpened UnfitAccount else if d then NotOpened AlreadyOpen else if s then InLot low else NotOpened NoFreeLot) ≡ InLot i → Opening i
-      go false b c d s x y z e = no-way cc
-      go true true c d s x y z e = no-way cc
-      go true false false d s x y z e = no-way cc
-      go true false true true s x y z e = no-way cc
-      go true false true false false x y z e = no-way cc
-      go true false true false true x y z e =
-          let s : low ≡ i = cc in
-          let w = lowest (λ j. isFree (viewOf m j)) lots z in
+      go : (a b c : Bool) → memoryFits lots m ≡ a → accountFits number f k ≡ c
+          → (if not a then NotOpened NoSuchLot else if b then NotOpened Damaged else if not c then NotOpened UnfitAccount else placeFor m lots number) ≡ InLot i → Opening i
+      go false b c x y e = no-way cc
+      go true true c x y e = no-way cc
+      go true false false x y e = no-way cc
+      go true false true x y e =
+          let w = placing m lots number x e in
           record {
-            inside = omega (arith, memory-long lots m x, w .below);
-            was-free = rw (← s) (w .passes);
+            inside = w .inside;
+            was-free = w .lowest-free .passes;
             fits = y;
             small = (omega (arith, leb-true number 65535 (nth _ y 1)), omega (arith, leb-true f 8 (nth _ y 3)), omega (arith, leb-true k 128 (nth _ y 5)));
           }

@@ -11,12 +11,17 @@ use Rattle.model.specs.declared.Opened.{Opened}
 use Rattle.model.specs.declared.Opened.the-variants.{InLot, NotOpened}
 use Rattle.model.specs.declared.Closed.{Closed}
 use Rattle.model.specs.declared.Closed.the-variants.{Pieces, NotClosed}
+use Rattle.model.specs.declared.Saved.{Saved}
+use Rattle.model.specs.declared.Saved.the-variants.{Length, NotSaved}
 use Rattle.model.proofs.Tests.{no-way}
 use Rattle.lot.specs.View.{Lot}
 use Rattle.lots.specs.Memory.{viewOf, OnlyLot, Becomes, Named, refused, found, named}
 use Rattle.standby.specs.Calls.{FreedAll, Started, OpenedAs, AccountOpened, deliverTo, deliverAnswer, TakenBy, Delivered, Freed, Dropped}
 use Rattle.standby.specs.Closing.{closeFrom, closeAnswer, ClosedAs, EpochClosed}
+use Rattle.standby.specs.Images.{SavedIn, saveAnswer, AccountSaved, LoadedAs, loadAnswer, AccountLoaded}
 use Rattle.lots.proofs.Named.{holder}
+use Rattle.standby.proofs.Saving.{saving}
+use Rattle.standby.proofs.Loading.{loading}
 
 -- two memories have the same bytes outside lot i, and the same account there
 abbrev pub Alike : ℕ → List ℕ → List ℕ → Type 0
@@ -115,3 +120,19 @@ closed-same {m} {m₁} {m₂} {lots} {lot} {number} {list} {list₁} {list₂} {
     go : (r : Closed) → viewOf m₂ lot ≡ viewOf m₁ lot → ClosedAs m m₁ lot list list₁ r → ClosedAs m m₂ lot list list₂ r → SameClose lot r m₁ m₂
     go (Pieces count) v u w = alike (u .0) (w .0) v
     go (NotClosed r) v u w = w .0 ∙ sym (u .0)
+
+-- ---- save, which writes in its buffer alone, and load, which answers the lot
+
+pub saved-same : {m : List ℕ} {lots lot number : ℕ} {buffer b₁ b₂ : List ℕ} {r₁ r₂ : Saved} → AccountSaved m lots lot number buffer b₁ r₁ → AccountSaved m lots lot number buffer b₂ r₂ → (r₂ ≡ r₁) × (b₂ ≡ b₁)
+saved-same {m} {lots} {lot} {number} {buffer} {b₁} {b₂} {r₁} u w = let e = w .answer ∙ sym (u .answer) in (e, go r₁ (u .answer) (u .saved) (rw e at (w .saved)))
+  where
+    go : (r : Saved) → r ≡ saveAnswer m lots lot number buffer → SavedIn m lot buffer b₁ r → SavedIn m lot buffer b₂ r → b₂ ≡ b₁
+    go (Length n) q u w = let d = saving m lots lot number buffer q in w (d .account) (d .here .held) ∙ sym (u (d .account) (d .here .held))
+    go (NotSaved r) q u w = w ∙ sym u
+
+pub loaded-same : {m m₁ m₂ : List ℕ} {lots : ℕ} {given : List ℕ} {r₁ r₂ : Opened} → AccountLoaded m m₁ lots given r₁ → AccountLoaded m m₂ lots given r₂ → (r₂ ≡ r₁) × SameOpen r₁ m₁ m₂
+loaded-same {m} {m₁} {m₂} {lots} {given} {r₁} u w = let e = w .answer ∙ sym (u .answer) in (e, go r₁ (u .answer) (u .loaded) (rw e at (w .loaded)))
+  where
+    go : (r : Opened) → r ≡ loadAnswer m lots given → LoadedAs m m₁ given r → LoadedAs m m₂ given r → SameOpen r m₁ m₂
+    go (InLot i) q u w = let o = loading m lots given q refl in both-become (u (o .account) (o .shows)) (w (o .account) (o .shows))
+    go (NotOpened r) q u w = w ∙ sym u

@@ -10,6 +10,8 @@ use Rattle.model.specs.declared.Opened.{Opened}
 use Rattle.model.specs.declared.Opened.the-variants.{InLot, NotOpened}
 use Rattle.model.specs.declared.Closed.{Closed}
 use Rattle.model.specs.declared.Closed.the-variants.{Pieces, NotClosed}
+use Rattle.model.specs.declared.Saved.{Saved}
+use Rattle.model.specs.declared.Saved.the-variants.{Length, NotSaved}
 use Rattle.model.proofs.Tests.{no-way}
 use Rattle.lot.specs.View.{viewLot, holds}
 use Rattle.lots.specs.Memory.{memoryFits, lotFits, lotOf, viewOf, named, isFree}
@@ -18,6 +20,8 @@ use Rattle.standby.specs.Closing.{closeAnswer, ClosedAs, EpochClosed}
 use Rattle.lots.proofs.Parts.{others-stay}
 use Rattle.standby.proofs.Calls.{opening}
 use Rattle.standby.proofs.Determined.{ClosedAlike, closed-alike}
+use Rattle.standby.specs.Images.{SavedIn, saveAnswer, AccountSaved, LoadedAs, loadAnswer, AccountLoaded}
+use Rattle.standby.proofs.Loading.{loading}
 
 -- two memories that both fit, or both do not, and that agree on one lot
 pub record SameLot (lots lot : ℕ) (m₁ m₂ : List ℕ) : Type 0 where
@@ -46,6 +50,18 @@ module _ {lots lot : ℕ} {m₁ m₂ : List ℕ} (s : SameLot lots lot m₁ m₂
   unfolding readAnswer
   read-same number fragment key = rw (named-same number)
 
+  pub save-same : (number : ℕ) (buffer : List ℕ) → saveAnswer m₁ lots lot number buffer ≡ saveAnswer m₂ lots lot number buffer
+  unfolding saveAnswer
+  save-same number buffer = rw (named-same number)
+
+  -- and what save writes in its buffer
+  pub saved-alike : {number : ℕ} {buffer buffer' : List ℕ} {r : Saved} → AccountSaved m₁ lots lot number buffer buffer' r → AccountSaved m₂ lots lot number buffer buffer' r
+  saved-alike {number} {buffer} {buffer'} {r} w = record { answer = w .answer ∙ save-same number buffer; saved = go r (w .saved) }
+    where
+      go : (r : Saved) → SavedIn m₁ lot buffer buffer' r → SavedIn m₂ lot buffer buffer' r
+      go (Length n) u = λ a v. u a (view ∙ v)
+      go (NotSaved x) u = u
+
   pub drop-same : (number : ℕ) → dropAnswer m₁ lots lot number ≡ dropAnswer m₂ lots lot number
   unfolding dropAnswer
   drop-same number = rw (there, view)
@@ -56,6 +72,16 @@ open-elsewhere {m} {m'} {lots} {number} {f} {k} lot {r} w e = go r (w .answer) (
   where
     go : (r : Opened) → r ≡ openAnswer m lots number f k → OpenedAs m m' (fresh number f k) r → lotOf m' lot ≡ lotOf m lot
     go (InLot i) q u = others-stay (u .0) lot (λ s. no-way (ap isFree (sym e) ∙ ap (λ j. isFree (viewOf m j)) s ∙ opening m lots number f k q refl .was-free))
+    go (NotOpened x) q u = rw u
+
+-- and so does load
+pub load-elsewhere : {m m' : List ℕ} {lots : ℕ} {given : List ℕ} (lot : ℕ) {r : Opened} {a : Account} → AccountLoaded m m' lots given r → viewOf m lot ≡ holds a → lotOf m' lot ≡ lotOf m lot
+load-elsewhere {m} {m'} {lots} {given} lot {r} w e = go r (w .answer) (w .loaded)
+  where
+    go : (r : Opened) → r ≡ loadAnswer m lots given → LoadedAs m m' given r → lotOf m' lot ≡ lotOf m lot
+    go (InLot i) q u =
+        let o = loading m lots given q refl in
+        others-stay (u (o .account) (o .shows) .0) lot (λ s. no-way (ap isFree (sym e) ∙ ap (λ j. isFree (viewOf m j)) s ∙ o .place .lowest-free .passes))
     go (NotOpened x) q u = rw u
 
 -- a call that names another lot leaves this one

@@ -1,3 +1,4 @@
 pub mod Calls
 pub mod Closing
 pub mod Images
+pub mod Loading

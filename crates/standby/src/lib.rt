@@ -1,22 +1,36 @@
 // The calls. What each owes stands in specs/.
 // A call finds its lot, looks at it once, decides, and only then writes, in that lot alone: the lot is lent on as a part of the memory.
-// It stands on `lots`, on `taking` and `closing`, which deliver to one lot and close an epoch in it, on `lot` and `model`.
+// It stands on `lots`, on `taking`, `closing` and `image`, which deliver to one lot, close an epoch in it, save and load it, on `judging` and `trailer`, which judge data and read their trailer, on `lot` and `model`.
 ghost use mathlib.Core.Path.{_≡_};
 ghost use Prim.Native.Nat.{_+_, _*_, _≤_, _<_};
 ghost use lib.ListN.{length};
 ghost use Rattle.model.specs.Account.{MOST-FRAGMENTS, MOST-KEYS};
+ghost use Rattle.model.specs.Image.{LONGEST-IMAGE};
+ghost use Rattle.model.specs.Decoding.{lastOf};
+ghost use Rattle.model.specs.declared.Opened.the-variants.{InLot};
 ghost use Rattle.lot.specs.Layout.{SIZE, recordsOf};
 ghost use Rattle.lot.specs.View.{recordAt};
 ghost use Rattle.lot.specs.Writing.{foundOf};
+ghost use Rattle.lot.specs.declared.Look.the-variants.{Holds};
+ghost use Rattle.image.specs.Saving.{LotSaved};
+ghost use Rattle.trailer.specs.Trailer.{numbersOf};
+ghost use Rattle.judging.specs.Judging.{judgedOf};
+ghost use Rattle.judging.specs.declared.Judged.the-variants.{Accepted};
 ghost use Rattle.lots.specs.Memory.{lotOf, viewOf, accountIn};
+ghost use Rattle.lots.specs.Looks.{lookFrom};
 ghost use Rattle.standby.specs.Calls.{AllFree, Started, openAnswer, AccountOpened, deliverTo, TakenBy, Delivered, readAnswer, Dropped};
 ghost use Rattle.standby.specs.Closing.{closeFrom, ClosedAs, EpochClosed};
+ghost use Rattle.standby.specs.Images.{AccountSaved, loadAnswer, LoadedAs, AccountLoaded};
+ghost use Rattle.standby.specs.Loading.{numberJudged};
+use judging::Judged;
 use lots::Finding;
 use model::Closed;
 use model::Found;
 use model::Opened;
 use model::Outcome;
 use model::Refusal;
+use model::Saved;
+use trailer::Trailer;
 
 // ---- start
 
@@ -146,6 +160,84 @@ pub fn read_record(
         } else {
             Found::NotRead(Refusal::OutsideAccount)
         },
+    }
+}
+
+// ---- save
+
+fn save_in(memory: &[u8], lot: usize, account: lot::Account, image: &mut [u8]) -> u32
+    requires { ⌜ (lot * SIZE + SIZE ≤ length (now memory)) × (lookFrom (viewOf (now memory) lot) ≡ Holds account) × (LONGEST-IMAGE ≤ length (now image)) ⌝ }
+    ensures { λ r. ⌜ LotSaved (lotOf (now (memory .entry)) lot) (now (image .entry)) (now (image .exit)) r ⌝ }
+{
+    let a = lot * lot::SIZE;
+    let e = a + lot::SIZE;
+    image::save_lot(&memory[a..e], account, image)
+}
+
+// The desk lends a buffer with room for the longest image.
+pub fn save_account(memory: &[u8], lots: u32, lot: u32, account: u32, image: &mut [u8]) -> Saved
+    ensures { λ r. ⌜ AccountSaved (now (memory .entry)) lots lot account (now (image .entry)) (now (image .exit)) r ⌝ }
+{
+    match lots::find(memory, lots, lot, account) {
+        Finding::Refused(r) => Saved::NotSaved(r),
+        Finding::Found(a) => {
+            if image.len() < image::LONGEST {
+                return Saved::NotSaved(Refusal::TooShort);
+            }
+            Saved::Length(save_in(memory, lot as usize, a, image))
+        }
+    }
+}
+
+// ---- load
+
+fn number_judged(judged: Judged) -> u32
+    ensures { λ r. ⌜ r ≡ numberJudged judged ⌝ }
+{
+    match judged {
+        Judged::NotAccepted => 0,
+        Judged::Accepted(t) => t.number as u32,
+    }
+}
+
+// The data are judged before the lots are looked at, so that one look at each lot also tells whether the account is open.
+fn load_answer(memory: &[u8], lots: u32, data: &[u8]) -> Opened
+    ensures { λ r. ⌜ r ≡ loadAnswer (now (memory .entry)) lots (now («data» .entry)) ⌝ }
+{
+    if !lots::memory_fits(memory, lots) {
+        return Opened::NotOpened(Refusal::NoSuchLot);
+    }
+    let judged = judging::judge_image(data);
+    let s = lots::survey_lots(memory, lots, number_judged(judged));
+    if s.damaged {
+        return Opened::NotOpened(Refusal::Damaged);
+    }
+    match judged {
+        Judged::NotAccepted => Opened::NotOpened(Refusal::NotAccepted),
+        Judged::Accepted(_) => lots::place_in(s),
+    }
+}
+
+// Loads accepted data into one lot.
+fn load_in(memory: &mut [u8], lot: usize, data: &[u8])
+    requires { ⌜ (lot * SIZE + SIZE ≤ length (now memory)) × (judgedOf (now «data») ≡ Accepted (numbersOf (lastOf 24 (now «data»)))) ⌝ }
+    ensures { λ _. ⌜ LoadedAs (now (memory .entry)) (now (memory .exit)) (now («data» .entry)) (InLot lot) ⌝ }
+{
+    let a = lot * lot::SIZE;
+    let e = a + lot::SIZE;
+    let t = Trailer::read(&data[data.len() - Trailer::LENGTH..]);
+    image::load_lot(&mut memory[a..e], data, t);
+}
+
+pub fn load_account(memory: &mut [u8], lots: u32, data: &[u8]) -> Opened
+    ensures { λ r. ⌜ AccountLoaded (now (memory .entry)) (now (memory .exit)) lots (now («data» .entry)) r ⌝ }
+{
+    match load_answer(memory, lots, data) {
+        Opened::InLot(i) => {
+            load_in(memory, i as usize, data);
+            Opened::InLot(i)
+        }
+        Opened::NotOpened(r) => Opened::NotOpened(r),
     }
 }
 
