@@ -9,3 +9,4 @@ pub mod Closes
 pub mod Lots
 pub mod Reached
 pub mod Worked
+pub mod ShutOut

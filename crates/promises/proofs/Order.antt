@@ -2,9 +2,7 @@
 use Prim.Native.Nat.{ℕ}
 use mathlib.Core.Path.{_≡_, sym, ap, _∙_}
 use mathlib.Core.List.{List}
-use lib.ListN.{length, take}
-use Rattle.model.specs.Account.{Account, fresh}
-use Rattle.model.specs.Image.{image}
+use Rattle.model.specs.Account.{Account}
 use Rattle.model.specs.Runs.{run}
 use Rattle.model.specs.declared.Saved.the-variants.{Length}
 use Rattle.model.proofs.Runs as model
@@ -16,23 +14,32 @@ use Rattle.promises.specs.Followed.{stepsIn, listsIn, Followed, OpenedRu
 use Rattle.promises.proofs.Answered.{save-shows, same-image}
 use Rattle.promises.proofs.Following.{opened-followed}
 
+-- ---- from one account on, in whichever memories and lots it stood
+
+module _ {number lot₁ lot₂ : ℕ} {ts₁ ts₂ : List Turn} {m₁ m₂ : List ℕ} {a : Account} (one : Followed number lot₁ ts₁ a m₁) (other : Followed number lot₂ ts₂ a m₂) (same : SameAccepted number lot₁ lot₂ ts₁ ts₂) where
+  same-runs : run (stepsIn number lot₁ ts₁) a ≡ run (stepsIn number lot₂ ts₂) a
+  same-runs = model.same-runs _ _ a (one .allowed) (other .allowed) (same .entries) (same .epochs)
+
+  pub same-account-on : viewOf m₁ lot₁ ≡ viewOf m₂ lot₂
+  same-account-on = one .held ∙ ap holds same-runs ∙ sym (other .held)
+
+  pub same-lists-on : listsIn number lot₁ ts₁ ≡ listsIn number lot₂ ts₂
+  same-lists-on = one .listed ∙ model.same-lists _ _ a (one .allowed) (other .allowed) (same .entries) (same .epochs) ∙ sym (other .listed)
+
+  pub same-images-on : {lots₁ lots₂ n₁ n₂ : ℕ} {buffer₁ buffer₂ buffer₁' buffer₂' m₁' m₂' : List ℕ}
+      → Step m₁ (save-account lots₁ lot₁ number buffer₁) (saved (Length n₁) buffer₁') m₁' → Step m₂ (save-account lots₂ lot₂ number buffer₂) (saved (Length n₂) buffer₂') m₂' → SameImage n₁ n₂ buffer₁' buffer₂'
+  same-images-on {lots₁} {lots₂} s t = same-image (save-shows lots₁ lot₁ number s (one .held ∙ ap holds same-runs)) (save-shows lots₂ lot₂ number t (other .held))
+
+-- ---- two runs that open the account alike
+
 module _ {number f k lot₁ lot₂ : ℕ} {ts₁ ts₂ : List Turn} {m₁ m₂ : List ℕ} (one : OpenedRun number f k lot₁ ts₁ m₁) (other : OpenedRun number f k lot₂ ts₂ m₂) (same : SameAccepted number lot₁ lot₂ ts₁ ts₂) where
-  abbrev one-followed : Followed number lot₁ ts₁ (fresh number f k) m₁
-  one-followed = opened-followed one
-
-  abbrev other-followed : Followed number lot₂ ts₂ (fresh number f k) m₂
-  other-followed = opened-followed other
-
-  same-runs : run (stepsIn number lot₁ ts₁) (fresh number f k) ≡ run (stepsIn number lot₂ ts₂) (fresh number f k)
-  same-runs = model.same-runs _ _ (fresh number f k) (one-followed .allowed) (other-followed .allowed) (same .entries) (same .epochs)
-
   pub equal-accounts : viewOf m₁ lot₁ ≡ viewOf m₂ lot₂
-  equal-accounts = one-followed .held ∙ ap holds same-runs ∙ sym (other-followed .held)
+  equal-accounts = same-account-on (opened-followed one) (opened-followed other) same
 
   pub equal-lists : listsIn number lot₁ ts₁ ≡ listsIn number lot₂ ts₂
-  equal-lists = one-followed .listed ∙ model.same-lists _ _ (fresh number f k) (one-followed .allowed) (other-followed .allowed) (same .entries) (same .epochs) ∙ sym (other-followed .listed)
+  equal-lists = same-lists-on (opened-followed one) (opened-followed other) same
 
   -- saves at the ends of the two runs, each with its lot count and its buffer
   pub equal-images : {lots₁ lots₂ n₁ n₂ : ℕ} {buffer₁ buffer₂ buffer₁' buffer₂' m₁' m₂' : List ℕ}
       → Step m₁ (save-account lots₁ lot₁ number buffer₁) (saved (Length n₁) buffer₁') m₁' → Step m₂ (save-account lots₂ lot₂ number buffer₂) (saved (Length n₂) buffer₂') m₂' → SameImage n₁ n₂ buffer₁' buffer₂'
-  equal-images {lots₁} {lots₂} s t = same-image (save-shows lots₁ lot₁ number s (one-followed .held ∙ ap holds same-runs)) (save-shows lots₂ lot₂ number t (other-followed .held))
+  equal-images s t = same-images-on (opened-followed one) (opened-followed other) same s t

@@ -6,7 +6,7 @@ use mathlib.Core.List.{List, [], _∷_, _++_}
 use native.Mathlib.Omega.{arith}
 use lib.Dec.{ltb, eqb}
 use lib.ListN.{length, take, drop, replicate, length-take, length-drop}
-use borrow.Author.Tests.{eq-eqb, lt-ltb}
+use borrow.Author.Tests.{eq-eqb, lt-ltb, le-ltb}
 use Rattle.wire.specs.Numbers.{number16, number32, bytes16, bytes32}
 use Rattle.model.specs.Lists.{if_then_else_}
 use Rattle.model.specs.Entry.{LENGTH, entryOf}
@@ -15,12 +15,14 @@ use Rattle.model.specs.Accepting.{WellFormed}
 use Rattle.model.specs.Taking as taking
 use Rattle.model.specs.Taking.{judgeEntry, judge}
 use Rattle.model.specs.Closing.{judgeClose, close, listed}
+use Rattle.model.specs.Image.{image, LONGEST-IMAGE}
 use Rattle.model.specs.Runs as model
 use Rattle.model.specs.Runs.{Allowed}
 use Rattle.model.specs.declared.Entry.{Entry}
 use Rattle.model.specs.declared.Outcome.the-variants.{Done}
 use Rattle.model.specs.declared.Opened.the-variants.{InLot}
 use Rattle.model.specs.declared.Closed.the-variants.{Pieces}
+use Rattle.model.specs.declared.Saved.the-variants.{Length}
 use Rattle.model.proofs.Tests.{and}
 use Rattle.model.proofs.Keeping.{fresh-well-formed, taken-well-formed, closed-well-formed}
 use Rattle.lot.specs.Layout.{SIZE}
@@ -32,7 +34,8 @@ use Rattle.lots.specs.Memory.{memoryFits, lotFits, lotOf, viewOf, OnlyLot, Beco
 use Rattle.lots.proofs.Parts.{lot-inside, part, left, lent}
 use Rattle.standby.specs.Calls.{openAnswer, AccountOpened, deliverAnswer, Delivered}
 use Rattle.standby.specs.Closing.{closeAnswer, EpochClosed}
-use Rattle.promises.specs.Runs.{open-account, deliver, close-epoch, outcome, opened, closed, Step, opens, delivers, closes, Turn, Run, ends, goes}
+use Rattle.standby.specs.Images.{saveAnswer}
+use Rattle.promises.specs.Runs.{open-account, deliver, close-epoch, save-account, outcome, opened, closed, saved, Step, opens, delivers, closes, saves, Turn, Run, ends, goes}
 use Rattle.promises.specs.Own.{names, isOwn, isEnd, Kept, ownTurns, stepsOf}
 use Rattle.promises.specs.Holding.{Holding}
 use Rattle.promises.specs.Followed.{stepsIn, OpenedRun}
@@ -117,6 +120,14 @@ module _ {number lots lot : ℕ} {m : List ℕ} {a : Account} (r : Ready number 
   can-close j =
       let b = becoming m lot (lot-inside lots lot m (r .there)) (close a) (closed-well-formed is-well-formed j) in
       (b .0, closes (does-close j (b .1)), ready-after (b .1) refl)
+
+  -- save is lent room for the longest image
+  pub can-save : (buffer : List ℕ) → LONGEST-IMAGE ≤ length buffer → Step m (save-account lots lot number buffer) (saved (Length (length (image a))) (image a ++ drop (length (image a)) buffer)) m
+  unfolding saveAnswer
+  can-save buffer room = saves (record { answer = answer; saved = λ c v. ap (λ b. image b ++ drop (length (image a)) buffer) (same-account c v) })
+    where
+      answer : Length (length (image a)) ≡ saveAnswer m lots lot number buffer
+      answer = rw (is-found, le-ltb (length buffer) LONGEST-IMAGE room)
 
 -- ---- a whole run
 
