@@ -6,6 +6,7 @@ pub mod Following
 pub mod Order
 pub mod Rules
 pub mod Closes
+pub mod RoundTrips
 pub mod Lots
 pub mod Reached
 pub mod Worked

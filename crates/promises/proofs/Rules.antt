@@ -16,12 +16,13 @@ use Rattle.model.specs.Rules.{inEpochs, At, here, there, Stands, Is}
 use Rattle.model.specs.Installed.{listedAt, isInstalled, Follows}
 use Rattle.model.specs.declared.Entry.{Entry}
 use Rattle.model.proofs.Tests.{no-way, and, and-l, and-r}
-use Rattle.model.proofs.Epochs.{at-below}
+use Rattle.model.proofs.Epochs.{at-below, at-whole}
 use Rattle.model.proofs.TakenLog.{tabled}
 use Rattle.model.proofs.LogRules as model
 use Rattle.lot.specs.Writing.{foundOf}
 use Rattle.promises.specs.Runs.{read-record, found, Step, Turn}
 use Rattle.promises.specs.Followed.{stepsIn, acceptedIn, listsIn, Followed, OpenedRun}
+use Rattle.promises.specs.Images.{RecordOf}
 use Rattle.promises.specs.Primary.{FollowsPrimary, WritesInstalled, LatestWrite, never-written, last-written}
 use Rattle.promises.proofs.Answered.{read-answered}
 use Rattle.promises.proofs.Following.{run-fragments, opened-followed}
@@ -97,16 +98,27 @@ module _ {number f k lot : ℕ} {ts : List Turn} {m' : List ℕ} {wrote : ℕ �
       → isInstalled (listsIn number lot ts) j t ≡ true → isInstalled (listsIn number lot ts) i u ≡ true
   earlier-commit = rw (W .listed) (model.earlier-commit F)
 
-  -- the record x that a read at the end of the run is answered
-  read-is : {lots i key : ℕ} {m'' : List ℕ} (x : Record) → Step m' (read-record lots lot number i key) (found (foundOf x)) m''
-      → x ≡ afterWrites (isInstalled (listsIn number lot ts) i) key (inEpochs 1 (acceptedIn number lot ts i)) absent
-  unfolding fresh
-  read-is {lots} {i} {key} x s =
-      let a = read-answered lots lot number i key x s (W .held) in
-      let l : i < f = omega (arith, a .in-fragments, run-fragments (stepsIn number lot ts) (fresh number f k)) in
-      a .value ∙ model.latest-write F i key l ∙ ap (λ ls. afterWrites (isInstalled ls i) key (inEpochs 1 (acceptedIn number lot ts i)) absent) (sym (W .listed))
+  -- a read at the end of the run is answered the record x
+  module _ {lots i key : ℕ} {m'' : List ℕ} (x : Record) (answered : Step m' (read-record lots lot number i key) (found (foundOf x)) m'') where
+    abbrev shown : RecordOf (run (stepsIn number lot ts) (fresh number f k)) i key x
+    shown = read-answered lots lot number i key x answered (W .held)
 
-  -- what a read at the end of the run is answered
-  pub latest-write : {lots i key : ℕ} {m'' : List ℕ} (x : Record) → Step m' (read-record lots lot number i key) (found (foundOf x)) m''
-      → LatestWrite (isInstalled (listsIn number lot ts) i) key (inEpochs 1 (acceptedIn number lot ts i)) x
-  latest-write {i = i} {key = key} x s = rw (read-is x s) (latest _ key (λ p h a. tabled number f k (stepsIn number lot ts) (W .allowed) i .kinds a .0) (λ p h a. a) (λ p h a u. a) (after-last _ key (inEpochs 1 (acceptedIn number lot ts i)) absent))
+    in-account : i < f
+    unfolding fresh
+    in-account = omega (arith, shown .in-fragments, run-fragments (stepsIn number lot ts) (fresh number f k))
+
+    abbrev D : ℕ → Bool
+    D = isInstalled (listsIn number lot ts) i
+
+    read-is : x ≡ afterWrites D key (inEpochs 1 (acceptedIn number lot ts i)) absent
+    read-is = shown .value ∙ model.latest-write F i key in-account ∙ ap (λ ls. afterWrites (isInstalled ls i) key (inEpochs 1 (acceptedIn number lot ts i)) absent) (sym (W .listed))
+
+    -- what is accepted stands in the stream, and what an installed transaction wrote there was accepted
+    part : (p : ℕ) (h : Held) → At h (inEpochs 1 (acceptedIn number lot ts i)) p → At h (inEpochs 1 (wrote i)) p
+    part p h a = let e = primary .first-part i in-account in rw (e .splits) (at-whole 1 (acceptedIn number lot ts i) (e .rest) a)
+
+    all : (p : ℕ) (h : Held) → At h (inEpochs 1 (wrote i)) p → WritesInstalled D key h → At h (inEpochs 1 (acceptedIn number lot ts i)) p
+    all p h a u = model.written-taken F (record { fragment = in-account; at = a }) (u .from-put) (u .to-delete) (rw (W .listed) at (u .installed))
+
+    pub latest-write : LatestWrite D key (inEpochs 1 (wrote i)) x
+    latest-write = rw read-is (latest D key (λ p h a. tabled number f k (stepsIn number lot ts) (W .allowed) i .kinds a .0) part all (after-last D key (inEpochs 1 (acceptedIn number lot ts i)) absent))

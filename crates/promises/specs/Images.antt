@@ -1,16 +1,15 @@
--- What saves wrote and reads are answered, in terms of an account; and what a round trip supposes and gives.
+-- What saves wrote and reads are answered, in terms of an account; and what is supposed between a load and a save.
 use Prim.Native.Nat.{ℕ, _<_}
 use mathlib.Core.Path.{_≡_}
-use mathlib.Core.Logic.{_≢_}
-use mathlib.Core.Bool.{true}
-use mathlib.Core.List.{List}
+use mathlib.Core.Option.{some}
+use mathlib.Core.List.{List, []}
 use lib.ListN.{length, take}
 use Rattle.model.specs.Account.{Account, Record}
 use Rattle.model.specs.Image.{image}
-use Rattle.model.specs.declared.Opened.{Opened}
-use Rattle.model.specs.declared.Opened.the-variants.{InLot}
-use Rattle.lot.specs.View.{free, damaged, holds}
-use Rattle.lots.specs.Memory.{memoryFits, viewOf}
+use Rattle.model.specs.Decoding.{load}
+use Rattle.promises.specs.Runs.{Turn, Run}
+use Rattle.promises.specs.Own.{Kept}
+use Rattle.promises.specs.Followed.{stepsIn}
 
 -- the first n bytes of a buffer are the image of a
 pub record ImageOf (a : Account) (n : ℕ) (buffer : List ℕ) : Type 0 where
@@ -28,18 +27,11 @@ pub record RecordOf (a : Account) (i k : ℕ) (x : Record) : Type 0 where
   pub in-keys : k < a .keys
   pub value : x ≡ a .at i .records k
 
--- ---- a saved image is loaded where that account isn't open, a lot is free and none is damaged
+-- ---- load, then save
 
-pub record RoomFor (number lots : ℕ) (m : List ℕ) : Type 0 where
-  pub fits : memoryFits lots m ≡ true
-  pub not-open : (i : ℕ) (a : Account) → i < lots → viewOf m i ≡ holds a → a .number ≢ number
-  pub one-free : (i : ℕ) × (i < lots) × (viewOf m i ≡ free)
-  pub none-damaged : (i : ℕ) → i < lots → viewOf m i ≢ damaged
-
--- the load is answered the lowest free lot, which then holds account a
-pub record Restored (a : Account) (m m' : List ℕ) (r : Opened) : Type 0 where
-  pub lot : ℕ
-  pub answer : r ≡ InLot lot
-  pub was-free : viewOf m lot ≡ free
-  pub lowest : (j : ℕ) → j < lot → viewOf m j ≢ free
-  pub held : viewOf m' lot ≡ holds a
+-- since these data were loaded into lot i: the account that they show has this number, and in the run since no call started afresh or dropped it there, none of its entries was accepted and no epoch closed
+pub record KeptSinceLoad (number i : ℕ) (given m' : List ℕ) (ts : List Turn) (m₂ : List ℕ) : Type 0 where
+  pub numbered : (a : Account) → load given ≡ some a → a .number ≡ number
+  pub runs : Run m' ts m₂
+  pub kept : Kept number i ts
+  pub nothing-done : stepsIn number i ts ≡ []
