@@ -17,7 +17,7 @@ use Rattle.model.specs.Taking.{judgeEntry, judge}
 use Rattle.model.specs.Closing.{judgeClose, close, listed}
 use Rattle.model.specs.Image.{image, LONGEST-IMAGE}
 use Rattle.model.specs.Runs as model
-use Rattle.model.specs.Runs.{Allowed}
+use Rattle.model.specs.Runs.{run, Allowed}
 use Rattle.model.specs.declared.Entry.{Entry}
 use Rattle.model.specs.declared.Outcome.the-variants.{Done}
 use Rattle.model.specs.declared.Opened.the-variants.{InLot}
@@ -131,42 +131,65 @@ module _ {number lots lot : ℕ} {m : List ℕ} {a : Account} (r : Ready number 
 
 -- ---- a whole run
 
--- a run whose calls of this account had these entries accepted and these epochs closed
-pub record Reached (number lot : ℕ) (ss : List model.Step) (m : List ℕ) : Type 0 where
+-- a run, from a memory in which account a stands in its lot, whose calls of the account had these entries accepted and these epochs closed
+pub record Reached (number lots lot : ℕ) (ss : List model.Step) (a : Account) (m : List ℕ) : Type 0 where
   pub turns : List Turn
   pub after : List ℕ
   pub runs : Run m turns after
   pub kept : Kept number lot turns
   pub steps : stepsIn number lot turns ≡ ss
+  pub ready : Ready number lots lot after (run ss a)
 
 module _ (number lots lot : ℕ) where
   own-call : names number lot lot number ≡ true
   own-call = rw (eq-eqb lot lot refl, eq-eqb number number refl)
 
-  pub reach : (ss : List model.Step) {a : Account} {m : List ℕ} → Ready number lots lot m a → Allowed ss a → Reached number lot ss m
-  unfolding Allowed Kept isOwn isEnd ownTurns stepsOf
-  reach [] {m = m} r l = record { turns = []; after = m; runs = ends; kept = tt; steps = refl }
+  pub reach : (ss : List model.Step) {a : Account} {m : List ℕ} → Ready number lots lot m a → Allowed ss a → Reached number lots lot ss a m
+  unfolding Allowed Kept isOwn isEnd ownTurns stepsOf run
+  reach [] {m = m} r l = record { turns = []; after = m; runs = ends; kept = tt; steps = refl; ready = r }
   reach (model.taking e ∷ ss) r l =
       let s = can-deliver r e (l .0) in
       let w = reach ss (s .2) (l .1) in
-      record { turns = record { call = deliver lots lot number (entry16 e); reply = outcome Done } ∷ w .turns; after = w .after; runs = goes (s .1) (w .runs); kept = (refl, w .kept); steps = rw (own-call, entry-back e, w .steps) }
-  reach (model.closing ∷ ss) r l =
+      record {
+        turns = record { call = deliver lots lot number (entry16 e); reply = outcome Done } ∷ w .turns;
+        after = w .after;
+        runs = goes (s .1) (w .runs);
+        kept = (refl, w .kept);
+        steps = rw (own-call, entry-back e, w .steps);
+        ready = w .ready;
+      }
+  reach (model.closing ∷ ss) {a = a} r l =
       let s = can-close r (l .0) in
       let w = reach ss (s .2) (l .1) in
-      record { turns = record { call = close-epoch lots lot number (before r); reply = closed (Pieces (length (listed _))) (after r) } ∷ w .turns; after = w .after; runs = goes (s .1) (w .runs); kept = (refl, w .kept); steps = rw (own-call, w .steps) }
+      record {
+        turns = record { call = close-epoch lots lot number (before r); reply = closed (Pieces (length (listed a))) (after r) } ∷ w .turns;
+        after = w .after;
+        runs = goes (s .1) (w .runs);
+        kept = (refl, w .kept);
+        steps = rw (own-call, w .steps);
+        ready = w .ready;
+      }
 
 -- an opening that is answered this lot, and then the entries and closes
-pub record ReachedRun (number f k lot : ℕ) (ss : List model.Step) : Type 0 where
+pub record ReachedRun (number f k lots lot : ℕ) (ss : List model.Step) : Type 0 where
   pub turns : List Turn
   pub after : List ℕ
   pub opened-run : OpenedRun number f k lot turns after
   pub steps : stepsIn number lot turns ≡ ss
+  pub ready : Ready number lots lot after (run ss (fresh number f k))
 
-pub every-run : (m : List ℕ) (number f k lots lot : ℕ) (ss : List model.Step) → InLot lot ≡ openAnswer m lots number f k → Allowed ss (fresh number f k) → ReachedRun number f k lot ss
+-- from any memory in which the opening is answered this lot
+pub every-run : (m : List ℕ) (number f k lots lot : ℕ) (ss : List model.Step) → InLot lot ≡ openAnswer m lots number f k → Allowed ss (fresh number f k) → ReachedRun number f k lots lot ss
 unfolding fresh lotFits
 every-run m number f k lots lot ss e l =
     let p = opened-placed m lots number f k e in
     let there : lotFits lots lot m ≡ true = and (p .0 .fits) (lt-ltb lot lots (p .0 .there)) in
     let b = becoming m lot (lot-inside lots lot m there) (fresh number f k) (fresh-well-formed number f k (p .1)) in
     let w = reach number lots lot ss (record { there = still-there lots lot m (b .0) (b .1 .0 .long) there; here = record { held = b .1 .1; numbered = refl } }) l in
-    record { turns = w .turns; after = w .after; opened-run = record { m = m; lots = lots; runs = goes (opens (record { answer = e; opened = b .1 })) (w .runs); kept = w .kept }; steps = w .steps }
+    record {
+      turns = w .turns;
+      after = w .after;
+      opened-run = record { m = m; lots = lots; runs = goes (opens (record { answer = e; opened = b .1 })) (w .runs); kept = w .kept };
+      steps = w .steps;
+      ready = w .ready;
+    }
