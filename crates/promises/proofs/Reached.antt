@@ -5,7 +5,7 @@ use mathlib.Core.Bool.{Bool, true, false}
 use mathlib.Core.List.{List, [], _∷_, _++_}
 use native.Mathlib.Omega.{arith}
 use lib.Dec.{ltb, eqb}
-use lib.ListN.{length, take, drop, replicate, length-take, length-drop}
+use lib.ListN.{length, drop, replicate}
 use borrow.Author.Tests.{eq-eqb, lt-ltb, le-ltb}
 use Rattle.wire.specs.Numbers.{number16, number32, bytes16, bytes32}
 use Rattle.model.specs.Lists.{if_then_else_}
@@ -25,13 +25,12 @@ use Rattle.model.specs.declared.Closed.the-variants.{Pieces}
 use Rattle.model.specs.declared.Saved.the-variants.{Length}
 use Rattle.model.proofs.Tests.{and}
 use Rattle.model.proofs.Keeping.{fresh-well-formed, taken-well-formed, closed-well-formed}
-use Rattle.lot.specs.Layout.{SIZE}
 use Rattle.lot.specs.View.{holds}
 use Rattle.lot.proofs.Views.{holds-well-formed}
 use Rattle.epoch.specs.Closed.{pairs}
 use Rattle.closing.specs.Closing.{closeOf, closeJudged, judgeRoom}
 use Rattle.lots.specs.Memory.{memoryFits, lotFits, lotOf, viewOf, OnlyLot, Becomes, accountIn, named, found}
-use Rattle.lots.proofs.Parts.{lot-inside, part, left, lent}
+use Rattle.lots.proofs.Parts.{lot-inside}
 use Rattle.standby.specs.Calls.{openAnswer, AccountOpened, deliverAnswer, Delivered}
 use Rattle.standby.specs.Closing.{closeAnswer, EpochClosed}
 use Rattle.standby.specs.Images.{saveAnswer}
@@ -40,7 +39,7 @@ use Rattle.promises.specs.Own.{names, isOwn, isEnd, Kept, ownTurns, step
 use Rattle.promises.specs.Holding.{Holding}
 use Rattle.promises.specs.Followed.{stepsIn, OpenedRun}
 use Rattle.promises.proofs.Placing.{opened-placed}
-use Rattle.promises.proofs.Lots.{lotFor, lot-long, lot-holds}
+use Rattle.promises.proofs.Lots.{lot-with, becomes}
 
 -- ---- the sixteen bytes of an entry
 
@@ -63,13 +62,6 @@ entry-long e = refl
 
 -- ---- one step
 
--- a memory in which lot i has become one that holds a
-pub becoming : (m : List ℕ) (i : ℕ) → i * SIZE + SIZE ≤ length m → (a : Account) → WellFormed a → (m' : List ℕ) × Becomes i m m' (holds a)
-becoming m i inside a w =
-    let z : i * SIZE + SIZE - i * SIZE ≡ SIZE = omega arith in
-    let kept : length (lotFor a) ≡ length (part m i) = lot-long a w ∙ sym (rw z (simp (length-take, length-drop) (omega arith))) in
-    (left m i (lotFor a) inside kept, lent m i (lotFor a) inside kept (lot-holds a w))
-
 -- the account stands in its lot, and there is such a lot
 pub record Ready (number lots lot : ℕ) (m : List ℕ) (a : Account) : Type 0 where
   pub there : lotFits lots lot m ≡ true
@@ -91,6 +83,9 @@ module _ {number lots lot : ℕ} {m : List ℕ} {a : Account} (r : Ready number 
   same-account : (c : Account) → viewOf m lot ≡ holds c → a ≡ c
   same-account c v = cc (r .here .held)
 
+  changed : (b : Account) → WellFormed b → (m' : List ℕ) × Becomes lot m m' (holds b)
+  changed b w = becomes m lot (holds b) (lot-inside lots lot m (r .there)) (lot-with b w)
+
   ready-after : {b : Account} {m' : List ℕ} → Becomes lot m m' (holds b) → b .number ≡ a .number → Ready number lots lot m' b
   ready-after {b} {m'} w e = record { there = still-there lots lot m m' (w .0 .long) (r .there); here = record { held = w .1; numbered = e ∙ r .here .numbered } }
 
@@ -101,7 +96,7 @@ module _ {number lots lot : ℕ} {m : List ℕ} {a : Account} (r : Ready number 
   can-deliver : (e : Entry) → judgeEntry a e ≡ Done → (m' : List ℕ) × Step m (deliver lots lot number (entry16 e)) (outcome Done) m' × Ready number lots lot m' (taking.taken e a)
   unfolding taking.taken
   can-deliver e j =
-      let b = becoming m lot (lot-inside lots lot m (r .there)) (taking.taken e a) (taken-well-formed e is-well-formed j) in
+      let b = changed (taking.taken e a) (taken-well-formed e is-well-formed j) in
       (b .0, delivers (does-deliver e j (b .1)), ready-after (b .1) refl)
 
   -- close is lent a list of 512 zeros
@@ -118,7 +113,7 @@ module _ {number lots lot : ℕ} {m : List ℕ} {a : Account} (r : Ready number 
   can-close : judgeClose a ≡ Done → (m' : List ℕ) × Step m (close-epoch lots lot number before) (closed (Pieces (length (listed a))) after) m' × Ready number lots lot m' (close a)
   unfolding close
   can-close j =
-      let b = becoming m lot (lot-inside lots lot m (r .there)) (close a) (closed-well-formed is-well-formed j) in
+      let b = changed (close a) (closed-well-formed is-well-formed j) in
       (b .0, closes (does-close j (b .1)), ready-after (b .1) refl)
 
   -- save is lent room for the longest image
@@ -184,7 +179,7 @@ unfolding fresh lotFits
 every-run m number f k lots lot ss e l =
     let p = opened-placed m lots number f k e in
     let there : lotFits lots lot m ≡ true = and (p .0 .fits) (lt-ltb lot lots (p .0 .there)) in
-    let b = becoming m lot (lot-inside lots lot m there) (fresh number f k) (fresh-well-formed number f k (p .1)) in
+    let b = becomes m lot (holds (fresh number f k)) (lot-inside lots lot m there) (lot-with (fresh number f k) (fresh-well-formed number f k (p .1))) in
     let w = reach number lots lot ss (record { there = still-there lots lot m (b .0) (b .1 .0 .long) there; here = record { held = b .1 .1; numbered = refl } }) l in
     record {
       turns = w .turns;
