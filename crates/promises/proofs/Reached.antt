@@ -72,7 +72,7 @@ unfolding lotFits memoryFits
 still-there lots lot m m' e t = rw e t
 
 module _ {number lots lot : ℕ} {m : List ℕ} {a : Account} (r : Ready number lots lot m a) where
-  is-found : named m lots lot number ≡ found a
+  pub is-found : named m lots lot number ≡ found a
   unfolding named
   is-found = rw (r .there, r .here .held, eq-eqb (a .number) number (r .here .numbered))
 
@@ -98,6 +98,11 @@ module _ {number lots lot : ℕ} {m : List ℕ} {a : Account} (r : Ready number 
   can-deliver e j =
       let b = changed (taking.taken e a) (taken-well-formed e is-well-formed j) in
       (b .0, delivers (does-deliver e j (b .1)), ready-after (b .1) refl)
+
+  -- whatever step a close that is done is, the account stands there with the epoch closed
+  pub ready-closed : {list list' m' : List ℕ} {count : ℕ} → Step m (close-epoch lots lot number list) (closed (Pieces count) list') m' → Ready number lots lot m' (close a)
+  unfolding close
+  ready-closed (closes w) = ready-after (w .closed .0, w .closed .1 a (r .here .held) .0) refl
 
   -- close is lent a list of 512 zeros
   abbrev before : List ℕ

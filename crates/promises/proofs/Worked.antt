@@ -30,14 +30,14 @@ use Rattle.promises.proofs.Reached.{ReachedRun, every-run, can-save}
 use Rattle.promises.proofs.Order.{equal-images}
 
 -- one free lot
-abbrev memory : List ℕ
+abbrev pub memory : List ℕ
 memory = FREE ++ replicate 10316 0
 
 is-free : viewOf memory 0 ≡ free
 unfolding viewOf viewLot view same
 is-free = refl
 
-opens-there : InLot 0 ≡ openAnswer memory 1 7 2 4
+pub opens-there : InLot 0 ≡ openAnswer memory 1 7 2 4
 unfolding openAnswer placeFor memoryFits every accountFits someBelow lowestBelow
 opens-there = rw is-free
 
