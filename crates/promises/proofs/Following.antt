@@ -54,6 +54,12 @@ allowed-append [] tt a u w = w
 allowed-append (model.taking e ∷ ss) tt a u w = (u .0, allowed-append ss tt (taking.taken e a) (u .1) w)
 allowed-append (model.closing ∷ ss) tt a u w = (u .0, allowed-append ss tt (close a) (u .1) w)
 
+pub allowed-split : (ss us : List model.Step) (a : Account) → Allowed (ss ++ us) a → Allowed ss a × Allowed us (run ss a)
+unfolding Allowed run
+allowed-split [] us a w = (tt, w)
+allowed-split (model.taking e ∷ ss) us a w = let r = allowed-split ss us (taking.taken e a) (w .1) in ((w .0, r .0), r .1)
+allowed-split (model.closing ∷ ss) us a w = let r = allowed-split ss us (close a) (w .1) in ((w .0, r .0), r .1)
+
 pub run-number : (ss : List model.Step) (a : Account) → run ss a .number ≡ a .number
 unfolding run taking.taken close
 run-number [] a = refl

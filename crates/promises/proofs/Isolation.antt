@@ -5,8 +5,8 @@
 use Prim.Native.Nat.{ℕ}
 use mathlib.Core.Path.{_≡_, refl, sym, ap, _∙_}
 use mathlib.Core.Logic.{_≢_}
-use mathlib.Core.Bool.{Bool, true, false, not, _&&_}
-use mathlib.Core.List.{List, [], _∷_, map}
+use mathlib.Core.Bool.{Bool, true, false, not}
+use mathlib.Core.List.{List, [], _∷_}
 use lib.Dec.{eqb}
 use lib.ListN.{length}
 use borrow.Author.Tests.{eq-eqb, eqb-true}
@@ -147,7 +147,7 @@ module _ {lot : ℕ} {m₁ m₂ : List ℕ} (g : Agree lot m₁ m₂) where
       long-after (Pieces count) u w = w .0 .long ∙ g .long ∙ sym (u .0 .long)
       long-after (NotClosed s) u w = rw (w .0, u .0) (g .long)
 
-  saves-same : {lots n : ℕ} {buffer buffer₁ buffer₂ : List ℕ} {r₁ r₂ : Saved}
+  pub saves-same : {lots n : ℕ} {buffer buffer₁ buffer₂ : List ℕ} {r₁ r₂ : Saved}
       → AccountSaved m₁ lots lot n buffer buffer₁ r₁ → AccountSaved m₂ lots lot n buffer buffer₂ r₂ → saved r₂ buffer₂ ≡ saved r₁ buffer₁
   unfolding saveAnswer
   saves-same {lots} {n} {buffer} {buffer₁} {buffer₂} {r₁} {r₂} u w =

@@ -1,6 +1,6 @@
 -- Open and load answer a lot that there is, and that was free. Assumes nothing.
 use Prim.Native.Nat.{ℕ, _<_}
-use mathlib.Core.Path.{_≡_, refl, sym, ap, _∙_}
+use mathlib.Core.Path.{_≡_, refl, sym}
 use mathlib.Core.Bool.{Bool, true, false, not}
 use mathlib.Core.Option.{Option, some, none}
 use mathlib.Core.List.{List}
@@ -8,7 +8,6 @@ use Rattle.model.specs.Lists.{if_then_else_}
 use Rattle.model.specs.Account.{Account, accountFits}
 use Rattle.model.specs.Decoding.{load}
 use Rattle.model.specs.declared.Refusal.the-variants.{NoSuchLot, Damaged, AlreadyOpen, NoFreeLot, UnfitAccount}
-use Rattle.model.specs.declared.Opened.{Opened}
 use Rattle.model.specs.declared.Opened.the-variants.{InLot, NotOpened}
 use Rattle.model.proofs.Tests.{no-way}
 use Rattle.lots.specs.Memory.{memoryFits, viewOf, isFree, isDamaged, isOf, someBelow, lowestBelow}

@@ -5,7 +5,7 @@ use mathlib.Core.Bool.{Bool, true, false}
 use mathlib.Core.List.{List, [], _∷_, _++_}
 use native.Mathlib.Omega.{arith}
 use lib.Dec.{ltb, eqb}
-use lib.ListN.{length, take, drop, replicate, length-take, length-drop}
+use lib.ListN.{length, drop, replicate}
 use borrow.Author.Tests.{eq-eqb, lt-ltb, le-ltb}
 use Rattle.wire.specs.Numbers.{number16, number32, bytes16, bytes32}
 use Rattle.model.specs.Lists.{if_then_else_}
@@ -17,7 +17,7 @@ use Rattle.model.specs.Taking.{judgeEntry, judge}
 use Rattle.model.specs.Closing.{judgeClose, close, listed}
 use Rattle.model.specs.Image.{image, LONGEST-IMAGE}
 use Rattle.model.specs.Runs as model
-use Rattle.model.specs.Runs.{Allowed}
+use Rattle.model.specs.Runs.{run, Allowed}
 use Rattle.model.specs.declared.Entry.{Entry}
 use Rattle.model.specs.declared.Outcome.the-variants.{Done}
 use Rattle.model.specs.declared.Opened.the-variants.{InLot}
@@ -25,13 +25,12 @@ use Rattle.model.specs.declared.Closed.the-variants.{Pieces}
 use Rattle.model.specs.declared.Saved.the-variants.{Length}
 use Rattle.model.proofs.Tests.{and}
 use Rattle.model.proofs.Keeping.{fresh-well-formed, taken-well-formed, closed-well-formed}
-use Rattle.lot.specs.Layout.{SIZE}
 use Rattle.lot.specs.View.{holds}
 use Rattle.lot.proofs.Views.{holds-well-formed}
 use Rattle.epoch.specs.Closed.{pairs}
 use Rattle.closing.specs.Closing.{closeOf, closeJudged, judgeRoom}
 use Rattle.lots.specs.Memory.{memoryFits, lotFits, lotOf, viewOf, OnlyLot, Becomes, accountIn, named, found}
-use Rattle.lots.proofs.Parts.{lot-inside, part, left, lent}
+use Rattle.lots.proofs.Parts.{lot-inside}
 use Rattle.standby.specs.Calls.{openAnswer, AccountOpened, deliverAnswer, Delivered}
 use Rattle.standby.specs.Closing.{closeAnswer, EpochClosed}
 use Rattle.standby.specs.Images.{saveAnswer}
@@ -40,7 +39,7 @@ use Rattle.promises.specs.Own.{names, isOwn, isEnd, Kept, ownTurns, step
 use Rattle.promises.specs.Holding.{Holding}
 use Rattle.promises.specs.Followed.{stepsIn, OpenedRun}
 use Rattle.promises.proofs.Placing.{opened-placed}
-use Rattle.promises.proofs.Lots.{lotFor, lot-long, lot-holds}
+use Rattle.promises.proofs.Lots.{lot-with, becomes}
 
 -- ---- the sixteen bytes of an entry
 
@@ -63,13 +62,6 @@ entry-long e = refl
 
 -- ---- one step
 
--- a memory in which lot i has become one that holds a
-pub becoming : (m : List ℕ) (i : ℕ) → i * SIZE + SIZE ≤ length m → (a : Account) → WellFormed a → (m' : List ℕ) × Becomes i m m' (holds a)
-becoming m i inside a w =
-    let z : i * SIZE + SIZE - i * SIZE ≡ SIZE = omega arith in
-    let kept : length (lotFor a) ≡ length (part m i) = lot-long a w ∙ sym (rw z (simp (length-take, length-drop) (omega arith))) in
-    (left m i (lotFor a) inside kept, lent m i (lotFor a) inside kept (lot-holds a w))
-
 -- the account stands in its lot, and there is such a lot
 pub record Ready (number lots lot : ℕ) (m : List ℕ) (a : Account) : Type 0 where
   pub there : lotFits lots lot m ≡ true
@@ -80,7 +72,7 @@ unfolding lotFits memoryFits
 still-there lots lot m m' e t = rw e t
 
 module _ {number lots lot : ℕ} {m : List ℕ} {a : Account} (r : Ready number lots lot m a) where
-  is-found : named m lots lot number ≡ found a
+  pub is-found : named m lots lot number ≡ found a
   unfolding named
   is-found = rw (r .there, r .here .held, eq-eqb (a .number) number (r .here .numbered))
 
@@ -90,6 +82,9 @@ module _ {number lots lot : ℕ} {m : List ℕ} {a : Account} (r : Ready number 
 
   same-account : (c : Account) → viewOf m lot ≡ holds c → a ≡ c
   same-account c v = cc (r .here .held)
+
+  changed : (b : Account) → WellFormed b → (m' : List ℕ) × Becomes lot m m' (holds b)
+  changed b w = becomes m lot (holds b) (lot-inside lots lot m (r .there)) (lot-with b w)
 
   ready-after : {b : Account} {m' : List ℕ} → Becomes lot m m' (holds b) → b .number ≡ a .number → Ready number lots lot m' b
   ready-after {b} {m'} w e = record { there = still-there lots lot m m' (w .0 .long) (r .there); here = record { held = w .1; numbered = e ∙ r .here .numbered } }
@@ -101,8 +96,13 @@ module _ {number lots lot : ℕ} {m : List ℕ} {a : Account} (r : Ready number 
   can-deliver : (e : Entry) → judgeEntry a e ≡ Done → (m' : List ℕ) × Step m (deliver lots lot number (entry16 e)) (outcome Done) m' × Ready number lots lot m' (taking.taken e a)
   unfolding taking.taken
   can-deliver e j =
-      let b = becoming m lot (lot-inside lots lot m (r .there)) (taking.taken e a) (taken-well-formed e is-well-formed j) in
+      let b = changed (taking.taken e a) (taken-well-formed e is-well-formed j) in
       (b .0, delivers (does-deliver e j (b .1)), ready-after (b .1) refl)
+
+  -- whatever step a close that is done is, the account stands there with the epoch closed
+  pub ready-closed : {list list' m' : List ℕ} {count : ℕ} → Step m (close-epoch lots lot number list) (closed (Pieces count) list') m' → Ready number lots lot m' (close a)
+  unfolding close
+  ready-closed (closes w) = ready-after (w .closed .0, w .closed .1 a (r .here .held) .0) refl
 
   -- close is lent a list of 512 zeros
   abbrev before : List ℕ
@@ -118,7 +118,7 @@ module _ {number lots lot : ℕ} {m : List ℕ} {a : Account} (r : Ready number 
   can-close : judgeClose a ≡ Done → (m' : List ℕ) × Step m (close-epoch lots lot number before) (closed (Pieces (length (listed a))) after) m' × Ready number lots lot m' (close a)
   unfolding close
   can-close j =
-      let b = becoming m lot (lot-inside lots lot m (r .there)) (close a) (closed-well-formed is-well-formed j) in
+      let b = changed (close a) (closed-well-formed is-well-formed j) in
       (b .0, closes (does-close j (b .1)), ready-after (b .1) refl)
 
   -- save is lent room for the longest image
@@ -131,42 +131,65 @@ module _ {number lots lot : ℕ} {m : List ℕ} {a : Account} (r : Ready number 
 
 -- ---- a whole run
 
--- a run whose calls of this account had these entries accepted and these epochs closed
-pub record Reached (number lot : ℕ) (ss : List model.Step) (m : List ℕ) : Type 0 where
+-- a run, from a memory in which account a stands in its lot, whose calls of the account had these entries accepted and these epochs closed
+pub record Reached (number lots lot : ℕ) (ss : List model.Step) (a : Account) (m : List ℕ) : Type 0 where
   pub turns : List Turn
   pub after : List ℕ
   pub runs : Run m turns after
   pub kept : Kept number lot turns
   pub steps : stepsIn number lot turns ≡ ss
+  pub ready : Ready number lots lot after (run ss a)
 
 module _ (number lots lot : ℕ) where
   own-call : names number lot lot number ≡ true
   own-call = rw (eq-eqb lot lot refl, eq-eqb number number refl)
 
-  pub reach : (ss : List model.Step) {a : Account} {m : List ℕ} → Ready number lots lot m a → Allowed ss a → Reached number lot ss m
-  unfolding Allowed Kept isOwn isEnd ownTurns stepsOf
-  reach [] {m = m} r l = record { turns = []; after = m; runs = ends; kept = tt; steps = refl }
+  pub reach : (ss : List model.Step) {a : Account} {m : List ℕ} → Ready number lots lot m a → Allowed ss a → Reached number lots lot ss a m
+  unfolding Allowed Kept isOwn isEnd ownTurns stepsOf run
+  reach [] {m = m} r l = record { turns = []; after = m; runs = ends; kept = tt; steps = refl; ready = r }
   reach (model.taking e ∷ ss) r l =
       let s = can-deliver r e (l .0) in
       let w = reach ss (s .2) (l .1) in
-      record { turns = record { call = deliver lots lot number (entry16 e); reply = outcome Done } ∷ w .turns; after = w .after; runs = goes (s .1) (w .runs); kept = (refl, w .kept); steps = rw (own-call, entry-back e, w .steps) }
-  reach (model.closing ∷ ss) r l =
+      record {
+        turns = record { call = deliver lots lot number (entry16 e); reply = outcome Done } ∷ w .turns;
+        after = w .after;
+        runs = goes (s .1) (w .runs);
+        kept = (refl, w .kept);
+        steps = rw (own-call, entry-back e, w .steps);
+        ready = w .ready;
+      }
+  reach (model.closing ∷ ss) {a = a} r l =
       let s = can-close r (l .0) in
       let w = reach ss (s .2) (l .1) in
-      record { turns = record { call = close-epoch lots lot number (before r); reply = closed (Pieces (length (listed _))) (after r) } ∷ w .turns; after = w .after; runs = goes (s .1) (w .runs); kept = (refl, w .kept); steps = rw (own-call, w .steps) }
+      record {
+        turns = record { call = close-epoch lots lot number (before r); reply = closed (Pieces (length (listed a))) (after r) } ∷ w .turns;
+        after = w .after;
+        runs = goes (s .1) (w .runs);
+        kept = (refl, w .kept);
+        steps = rw (own-call, w .steps);
+        ready = w .ready;
+      }
 
 -- an opening that is answered this lot, and then the entries and closes
-pub record ReachedRun (number f k lot : ℕ) (ss : List model.Step) : Type 0 where
+pub record ReachedRun (number f k lots lot : ℕ) (ss : List model.Step) : Type 0 where
   pub turns : List Turn
   pub after : List ℕ
   pub opened-run : OpenedRun number f k lot turns after
   pub steps : stepsIn number lot turns ≡ ss
+  pub ready : Ready number lots lot after (run ss (fresh number f k))
 
-pub every-run : (m : List ℕ) (number f k lots lot : ℕ) (ss : List model.Step) → InLot lot ≡ openAnswer m lots number f k → Allowed ss (fresh number f k) → ReachedRun number f k lot ss
+-- from any memory in which the opening is answered this lot
+pub every-run : (m : List ℕ) (number f k lots lot : ℕ) (ss : List model.Step) → InLot lot ≡ openAnswer m lots number f k → Allowed ss (fresh number f k) → ReachedRun number f k lots lot ss
 unfolding fresh lotFits
 every-run m number f k lots lot ss e l =
     let p = opened-placed m lots number f k e in
     let there : lotFits lots lot m ≡ true = and (p .0 .fits) (lt-ltb lot lots (p .0 .there)) in
-    let b = becoming m lot (lot-inside lots lot m there) (fresh number f k) (fresh-well-formed number f k (p .1)) in
+    let b = becomes m lot (holds (fresh number f k)) (lot-inside lots lot m there) (lot-with (fresh number f k) (fresh-well-formed number f k (p .1))) in
     let w = reach number lots lot ss (record { there = still-there lots lot m (b .0) (b .1 .0 .long) there; here = record { held = b .1 .1; numbered = refl } }) l in
-    record { turns = w .turns; after = w .after; opened-run = record { m = m; lots = lots; runs = goes (opens (record { answer = e; opened = b .1 })) (w .runs); kept = w .kept }; steps = w .steps }
+    record {
+      turns = w .turns;
+      after = w .after;
+      opened-run = record { m = m; lots = lots; runs = goes (opens (record { answer = e; opened = b .1 })) (w .runs); kept = w .kept };
+      steps = w .steps;
+      ready = w .ready;
+    }

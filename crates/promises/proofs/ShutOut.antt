@@ -1,31 +1,37 @@
--- Wrong standbys that demands 2 and 3 shut out, each shown against what a step of a run must satisfy: a close that leaves the account as it was; one that installs epoch 1 and later only counts; an empty image. Assumes nothing.
-use Prim.Native.Nat.{ℕ, _≤_}
-use mathlib.Core.Path.{_≡_, refl, ap, _∙_}
+-- Wrong standbys that demands 2 and 3 shut out: one whose close does nothing, one that truly installs epoch 1 and only counts later, one that saves an empty image always. Assumes nothing.
+use Prim.Native.Nat.{ℕ, _<_, _≤_}
+use mathlib.Core.Path.{_≡_, refl, sym, ap, _∙_}
 use mathlib.Core.Logic.{_≢_}
 use mathlib.Core.List.{List, [], _∷_}
 use native.Mathlib.Omega.{arith}
-use lib.ListN.{length}
-use borrow.Author.Tests.{leb-true}
-use Rattle.model.specs.Lists.{upward, filter, any}
+use lib.ListN.{length, replicate, length-replicate}
+use borrow.Author.Tests.{le-ltb, lt-ltb}
+use Rattle.model.specs.Lists.{filter, any}
 use Rattle.model.specs.Entry.{CC, CP}
-use Rattle.model.specs.Account.{absent, present, Account, accountFits, fresh}
+use Rattle.model.specs.Account.{absent, present, Account, fresh}
 use Rattle.model.specs.Taking.{stepped, hold, take, taken}
-use Rattle.model.specs.Closing.{upto, verdict, committed, pieces, left, survivors, afterWrites, apply, settle, close, installed, listed}
-use Rattle.model.specs.Runs.{Step, taking, closing, run}
+use Rattle.model.specs.Closing.{judgeClose, upto, verdict, committed, pieces, left, survivors, afterWrites, apply, settle, close, listed}
+use Rattle.model.specs.Image.{image, LONGEST-IMAGE}
+use Rattle.model.specs.Runs.{Step, taking, closing, run, Allowed}
+use Rattle.model.specs.declared.Outcome.the-variants.{Done}
 use Rattle.model.specs.declared.Closed.the-variants.{Pieces}
 use Rattle.model.specs.declared.Saved.the-variants.{Length}
-use Rattle.model.specs.declared.Found.the-variants.{Absent}
-use Rattle.model.proofs.Tests.{nth}
 use Rattle.model.proofs.Image.{image-length}
-use Rattle.model.proofs.Cases.{put, prepare, commit, mark, start, piece}
-use Rattle.lot.proofs.Views.{holds-well-formed}
-use Rattle.lots.specs.Memory.{lotOf, viewOf}
+use Rattle.model.proofs.Cases.{put, prepare, commit, mark, start, worked-allowed}
+use Rattle.lot.specs.Writing.{foundOf}
+use Rattle.closing.specs.Closing.{LEAST-LIST, judgeRoom}
+use Rattle.lots.specs.Memory.{viewOf}
+use Rattle.standby.specs.Calls.{readAnswer}
+use Rattle.standby.specs.Closing.{closeAnswer}
+use Rattle.standby.specs.Images.{saveAnswer}
 use Rattle.promises.specs.Runs as calls
-use Rattle.promises.specs.Runs.{close-epoch, read-record, save-account}
-use Rattle.promises.specs.Own.{firstPieces}
+use Rattle.promises.specs.Runs.{Reply, close-epoch, read-record, save-account}
 use Rattle.promises.specs.Holding.{Holding}
-use Rattle.promises.proofs.Answered.{save-shows}
+use Rattle.promises.specs.Serving.{Standby, Serves}
+use Rattle.promises.proofs.Following.{allowed-split}
 use Rattle.promises.proofs.Closes.{close-is-the-models}
+use Rattle.promises.proofs.Reached.{Ready, is-found, ready-closed, ReachedRun, every-run}
+use Rattle.promises.proofs.Worked.{memory, opens-there}
 
 -- ---- a close that does nothing
 
@@ -38,9 +44,25 @@ close-does-something {a = a} h s e =
     let same : close a ≡ a = cc (c .held, h .held) in
     omega (arith, ap (λ b. b .closed) same)
 
--- ---- epoch 1 is installed, and later epochs are only counted
+-- ---- what a step is answered, where the account stands in its lot
 
--- the worked case up to its second close
+module _ {number lots lot : ℕ} {m : List ℕ} {a : Account} (here : Ready number lots lot m a) where
+  closes-as : {m' : List ℕ} {r : Reply} (list : List ℕ) → LEAST-LIST ≤ length list → judgeClose a ≡ Done → calls.Step m (close-epoch lots lot number list) r m' → (list' : List ℕ) × calls.Step m (close-epoch lots lot number list) (calls.closed (Pieces (length (listed a))) list') m'
+  unfolding closeAnswer judgeRoom
+  closes-as list room j (calls.closes {list' = list'} {r = o} w) =
+      let e : o ≡ Pieces (length (listed a)) = w .answer ∙ rw (is-found here, le-ltb (length list) LEAST-LIST room, j) in
+      (list', calls.closes (rw e at w))
+
+  reads-as : {m' : List ℕ} {r : Reply} (i k : ℕ) → i < a .fragments → k < a .keys → calls.Step m (read-record lots lot number i k) r m' → r ≡ calls.found (foundOf (a .at i .records k))
+  unfolding readAnswer
+  reads-as i k f l (calls.reads w) = ap calls.found (w ∙ rw (is-found here, lt-ltb i (a .fragments) f, lt-ltb k (a .keys) l))
+
+  saves-as : {m' : List ℕ} {r : Reply} (buffer : List ℕ) → LONGEST-IMAGE ≤ length buffer → calls.Step m (save-account lots lot number buffer) r m' → (buffer' : List ℕ) × (r ≡ calls.saved (Length (length (image a))) buffer')
+  unfolding saveAnswer
+  saves-as buffer room (calls.saves {buffer' = buffer'} w) = (buffer', ap (λ o. calls.saved o buffer') (w .answer ∙ rw (is-found here, le-ltb (length buffer) LONGEST-IMAGE room)))
+
+-- ---- the worked case up to its second close
+
 abbrev untilSecond : List Step
 untilSecond =
     taking (put 0 0 1 0 10) ∷ taking (commit CC 0 1 1) ∷ taking (mark 0 2 1) ∷ taking (mark 0 3 2)
@@ -50,29 +72,62 @@ untilSecond =
 abbrev second : Account
 second = run untilSecond start
 
-second-lists : listed second ≡ piece 1 2 ∷ []
-unfolding run listed installed upward fresh taken take stepped hold close settle committed verdict upto filter any survivors left pieces
-second-lists = refl
+allowed : Allowed untilSecond start × Allowed (closing ∷ []) second
+allowed = allowed-split untilSecond (closing ∷ []) start worked-allowed
 
-second-writes : close second .at 1 .records 3 ≡ present 40
+can-close : judgeClose second ≡ Done
+unfolding Allowed
+can-close = allowed .1 .0
+
+was-absent : second .at 1 .records 3 ≡ absent
 unfolding run fresh taken take stepped hold close settle committed verdict upto filter any survivors left pieces apply afterWrites
-second-writes = refl
+was-absent = refl
 
-module _ {m m' : List ℕ} {lot lots count : ℕ} {list list' : List ℕ} (h : Holding 7 lot m second) (s : calls.Step m (close-epoch lots lot 7 list) (calls.closed (Pieces count) list') m') where
-  -- the second close counts one piece and lists it
-  pub second-close-lists : (count ≡ 1) × (firstPieces count list' ≡ piece 1 2 ∷ [])
-  second-close-lists = let c = close-is-the-models h s in (c .counted ∙ ap length second-lists, c .pieces ∙ second-lists)
+is-written : close second .at 1 .records 3 ≡ present 40
+unfolding run fresh taken take stepped hold close settle committed verdict upto filter any survivors left pieces apply afterWrites
+is-written = refl
 
-  -- and a standby that does not write what it lists is shut out: the record that was absent is not absent afterwards
-  pub second-close-writes : {lots' : ℕ} {m'' : List ℕ} → calls.Step m' (read-record lots' lot 7 1 3) (calls.found Absent) m'' → ⊥
-  second-close-writes r = let e = close-is-the-models h s .records absent r ∙ second-writes in let z : _≡_ {A = ℕ} 0 1 = cc in omega arith
+two-by-four : (second .fragments ≡ 2) × (second .keys ≡ 4) × (second .closed ≡ 1) × (close second .fragments ≡ 2) × (close second .keys ≡ 4)
+unfolding run fresh taken close
+two-by-four = (refl, refl, refl, refl, refl)
 
--- ---- an empty image always
+there : ReachedRun 7 2 4 1 0 untilSecond
+there = every-run memory 7 2 4 1 0 untilSecond opens-there (allowed .0)
 
--- no image is shorter than 32 bytes, that of a fresh account with one fragment
-pub image-not-empty : {m m' : List ℕ} {number lot lots n : ℕ} {buffer buffer' : List ℕ} {a : Account} → Holding number lot m a
-    → calls.Step m (save-account lots lot number buffer) (calls.saved (Length n) buffer') m' → 32 ≤ n
-unfolding viewOf accountFits
-image-not-empty {m} {number = number} {lot} {lots} {a = a} h s =
-    let w = save-shows lots lot number s (h .held) in
-    omega (arith, w .long, image-length a, leb-true 1 (a .fragments) (nth _ (holds-well-formed (lotOf m lot) (h .held) .fits) 2))
+abbrev before : List ℕ
+before = there .after
+
+abbrev list : List ℕ
+list = replicate 512 0
+
+abbrev buffer : List ℕ
+buffer = replicate 13400 0
+
+-- ---- no standby that keeps the contracts ..
+
+module _ (s : Standby) (serves : Serves s) where
+  abbrev closed : (list' : List ℕ) × calls.Step before (close-epoch 1 0 7 list) (calls.closed (Pieces (length (listed second))) list') (s .leaves before (close-epoch 1 0 7 list))
+  closed = closes-as (there .ready) list (omega (arith, length-replicate {A = ℕ} 512 0)) can-close (serves before (close-epoch 1 0 7 list))
+
+  -- .. has a close that does nothing,
+  pub idle-close : ((m : List ℕ) (lots lot number : ℕ) (l : List ℕ) → s .leaves m (close-epoch lots lot number l) ≡ m) → ⊥
+  idle-close idle = close-does-something (there .ready .here) (closed .1) (ap (λ m. viewOf m 0) (idle before 1 0 7 list))
+
+  -- .. truly installs epoch 1 and only counts later: closes of accounts with an epoch closed leave every record as it was,
+  pub counts-later : ((m : List ℕ) (lots lot number : ℕ) (l : List ℕ) (a : Account) → Holding number lot m a → 1 ≤ a .closed → (i k : ℕ)
+      → s .answers (s .leaves m (close-epoch lots lot number l)) (read-record lots lot number i k) ≡ s .answers m (read-record lots lot number i k)) → ⊥
+  counts-later same =
+      let after = s .leaves before (close-epoch 1 0 7 list) in
+      let limits = two-by-four in
+      let x = reads-as (there .ready) 1 3 (omega (arith, limits .0)) (omega (arith, limits .1)) (serves before (read-record 1 0 7 1 3)) in
+      let y = reads-as (ready-closed (there .ready) (closed .1)) 1 3 (omega (arith, limits .3)) (omega (arith, limits .4)) (serves after (read-record 1 0 7 1 3)) in
+      let e : calls.found (foundOf (close second .at 1 .records 3)) ≡ calls.found (foundOf (second .at 1 .records 3)) = sym y ∙ same before 1 0 7 list second (there .ready .here) (omega (arith, limits .2)) 1 3 ∙ x in
+      let f : calls.found (foundOf (present 40)) ≡ calls.found (foundOf absent) = rw (is-written, was-absent) at e in
+      let z : _≡_ {A = ℕ} 0 1 = cc in
+      omega arith
+
+  -- .. or saves an empty image always
+  pub empty-image : ((m : List ℕ) (lots lot number : ℕ) (b b' : List ℕ) (n : ℕ) → s .answers m (save-account lots lot number b) ≡ calls.saved (Length n) b' → n ≡ 0) → ⊥
+  empty-image none =
+      let w = saves-as (there .ready) buffer (omega (arith, length-replicate {A = ℕ} 13400 0)) (serves before (save-account 1 0 7 buffer)) in
+      omega (arith, none before 1 0 7 buffer (w .0) (length (image second)) (w .1), image-length second)

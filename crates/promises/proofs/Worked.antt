@@ -1,9 +1,9 @@
 -- The worked case of docs/RULES.md as a run of calls, and the same entries and closes in another order as a second run: so the premises of demand 3 are met, both halves. Assumes nothing.
-use Prim.Native.Nat.{ℕ, zero, suc}
+use Prim.Native.Nat.{ℕ, zero, suc, _≤_}
 use mathlib.Core.Path.{_≡_, refl, sym, _∙_}
 use mathlib.Core.List.{List, [], _∷_, _++_}
 use native.Mathlib.Omega.{arith}
-use lib.ListN.{replicate}
+use lib.ListN.{length, drop, replicate, length-replicate}
 use Rattle.model.specs.Lists.{every, filter, any, sumBelow, bitsOf}
 use Rattle.model.specs.Entry.{CC, CP, fieldsFit, fits, inAccount, inside}
 use Rattle.model.specs.Distance.{distance}
@@ -12,7 +12,8 @@ use Rattle.model.specs.Stages.{stageAfter, stageFrom, takes}
 use Rattle.model.specs.Taking.{judgeEntry, stepped, hold, take, taken}
 use Rattle.model.specs.Closing.{missing, judgeClose, upto, verdict, committed, pieces, left, survivors, settle, close}
 use Rattle.model.specs.Decoding.{same}
-use Rattle.model.specs.Runs.{Step, taking, closing, Allowed, log, closings}
+use Rattle.model.specs.Image.{image, LONGEST-IMAGE}
+use Rattle.model.specs.Runs.{Step, taking, closing, run, Allowed, log, closings}
 use Rattle.model.specs.declared.Opened.the-variants.{InLot}
 use Rattle.model.proofs.Runs.{log-outside}
 use Rattle.model.proofs.Cases.{put, prepare, commit, mark, start, piece, worked, worked-is, worked-allowed}
@@ -22,23 +23,25 @@ use Rattle.lot.specs.View.{free, view, viewLot}
 use Rattle.lots.specs.Memory.{memoryFits, viewOf, someBelow, lowestBelow}
 use Rattle.standby.specs.Calls.{placeFor, openAnswer}
 use Rattle.promises.specs.Followed.{listsIn, SameAccepted}
+use Rattle.promises.specs.Images.{SameImage}
 use Rattle.promises.specs.Primary.{FollowsPrimary}
 use Rattle.promises.proofs.Following.{opened-followed}
-use Rattle.promises.proofs.Reached.{ReachedRun, every-run}
+use Rattle.promises.proofs.Reached.{ReachedRun, every-run, can-save}
+use Rattle.promises.proofs.Order.{equal-images}
 
 -- one free lot
-abbrev memory : List ℕ
+abbrev pub memory : List ℕ
 memory = FREE ++ replicate 10316 0
 
 is-free : viewOf memory 0 ≡ free
 unfolding viewOf viewLot view same
 is-free = refl
 
-opens-there : InLot 0 ≡ openAnswer memory 1 7 2 4
+pub opens-there : InLot 0 ≡ openAnswer memory 1 7 2 4
 unfolding openAnswer placeFor memoryFits every accountFits someBelow lowestBelow
 opens-there = rw is-free
 
-pub worked-run : ReachedRun 7 2 4 0 worked
+pub worked-run : ReachedRun 7 2 4 1 0 worked
 worked-run = every-run memory 7 2 4 1 0 worked opens-there worked-allowed
 
 -- ---- the second half of demand 3
@@ -63,7 +66,7 @@ otherwise-allowed : Allowed otherwise start
 unfolding Allowed judgeEntry judgeClose missing fresh taken take stepped hold close settle committed verdict upto filter any survivors left pieces stageAfter stageFrom takes fits fieldsFit inside inAccount every distance sumBelow bitsOf heldCount
 otherwise-allowed = (refl, (refl, (refl, (refl, (refl, (refl, (refl, (refl, (refl, (refl, (refl, (refl, (refl, tt)))))))))))))
 
-pub other-run : ReachedRun 7 2 4 0 otherwise
+pub other-run : ReachedRun 7 2 4 1 0 otherwise
 other-run = every-run memory 7 2 4 1 0 otherwise opens-there otherwise-allowed
 
 same-logs : (i : ℕ) → log worked i ≡ log otherwise i
@@ -75,3 +78,16 @@ same-logs (suc (suc i)) = log-outside worked start worked-allowed (suc (suc i)) 
 pub worked-twice : SameAccepted 7 0 0 (worked-run .turns) (other-run .turns)
 unfolding closings
 worked-twice = record { entries = λ i. rw (worked-run .steps, other-run .steps) (same-logs i); epochs = rw (worked-run .steps, other-run .steps) }
+
+-- so saves at their ends, which are answered, write the same image
+abbrev buffer : List ℕ
+buffer = replicate 13400 0
+
+room : LONGEST-IMAGE ≤ length buffer
+room = omega (arith, length-replicate {A = ℕ} 13400 0)
+
+abbrev written : List Step → List ℕ
+written ss = image (run ss start) ++ drop (length (image (run ss start))) buffer
+
+pub worked-images : SameImage (length (image (run worked start))) (length (image (run otherwise start))) (written worked) (written otherwise)
+worked-images = equal-images (worked-run .opened-run) (other-run .opened-run) worked-twice (can-save (worked-run .ready) buffer room) (can-save (other-run .ready) buffer room)

@@ -1,33 +1,23 @@
 -- A call writes in its own lot and nowhere before or after it, start alone in all lots; a refusal changes nothing lent. Assumes nothing.
 use Prim.Native.Nat.{ℕ}
-use mathlib.Core.Path.{_≡_, refl, sym, ap, _∙_}
+use mathlib.Core.Path.{_≡_, refl, sym, ap}
 use mathlib.Core.Bool.{Bool, true, false}
 use mathlib.Core.List.{List}
 use lib.Dec.{eqb}
 use lib.ListN.{length}
 use Rattle.model.specs.Lists.{if_then_else_, upward}
-use Rattle.model.specs.Account.{fresh}
 use Rattle.model.specs.Answers.{refusalNumbers}
 use Rattle.model.specs.declared.Refusal.{Refusal}
 use Rattle.model.specs.declared.Refusal.the-variants.{NoSuchLot, Damaged, NotThisAccount, WrongLength, Unfit, OutsideAccount, Seen, Gap, WrongMark, OutOfTurn, Full, MarkMissing, AlreadyOpen, NoFreeLot, UnfitAccount, TooShort, NotAccepted}
-use Rattle.model.specs.declared.Outcome.{Outcome}
 use Rattle.model.specs.declared.Outcome.the-variants.{Done, Refused}
-use Rattle.model.specs.declared.Opened.{Opened}
 use Rattle.model.specs.declared.Opened.the-variants.{InLot, NotOpened}
-use Rattle.model.specs.declared.Closed.{Closed}
 use Rattle.model.specs.declared.Closed.the-variants.{Pieces, NotClosed}
-use Rattle.model.specs.declared.Found.{Found}
-use Rattle.model.specs.declared.Found.the-variants.{Present, Absent, NotRead}
-use Rattle.model.specs.declared.Saved.{Saved}
 use Rattle.model.specs.declared.Saved.the-variants.{Length, NotSaved}
 use Rattle.model.proofs.Tests.{no-way}
-use Rattle.standby.specs.Calls.{FreedAll, OpenedAs, TakenBy, Freed}
-use Rattle.standby.specs.Closing.{ClosedAs}
-use Rattle.standby.specs.Images.{SavedIn, LoadedAs, loadAnswer}
-use Rattle.overview.specs.Overview.{rowsFor, rowsWith}
+use Rattle.overview.specs.Overview.{rowsWith}
 use Rattle.overview.specs.declared.Row.{Row}
 use Rattle.promises.specs.Runs.{Call, Reply, found, saved, overviewed, Step, starts, opens, delivers, closes, reads, saves, loads, drops, overviews}
-use Rattle.promises.specs.Written.{isDone, Where, nowhere, in-lot, in-all-lots, target, writes, Elsewhere, lentTo, leftIn}
+use Rattle.promises.specs.Written.{isDone, Where, nowhere, in-lot, in-all-lots, writes, Elsewhere, lentTo, leftIn}
 use Rattle.promises.proofs.Placing.{loaded-placed}
 
 pub refusal-not-done : (r : Refusal) → eqb (refusalNumbers r .number) 0 ≡ false

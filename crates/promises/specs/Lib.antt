@@ -2,6 +2,8 @@ pub mod Runs
 pub mod Own
 pub mod Holding
 pub mod Written
+pub mod Answers
+pub mod Serving
 pub mod Followed
 pub mod Primary
 pub mod Images

@@ -7,7 +7,7 @@ use lib.Dec.{eqb}
 use lib.ListN.{length}
 use Rattle.model.specs.Lists.{if_then_else_}
 use Rattle.model.specs.declared.Numbers.{Numbers}
-use Rattle.lots.specs.Memory.{OnlyLot}
+use Rattle.lots.specs.Memory.{viewOf, OnlyLot, Becomes}
 use Rattle.overview.specs.declared.Row.{Row}
 use Rattle.promises.specs.Runs.{Call, start, open-account, deliver, close-epoch, read-record, save-account, load-account, drop-account, overview, Reply, outcome, opened, closed, found, saved, overviewed, replyNumbers}
 
@@ -73,3 +73,10 @@ leftIn (closed r l) = record { list = l; buffer = []; rows = [] }
 leftIn (found r) = nothing-lent
 leftIn (saved r b) = record { list = []; buffer = b; rows = [] }
 leftIn (overviewed r rs) = record { list = []; buffer = []; rows = rs }
+
+-- ---- two memories that a call may leave, by where it writes: the same bytes elsewhere, and the same free, damaged or held account there
+
+abbrev pub Same : Where → List ℕ → List ℕ → Type 0
+Same nowhere m₁ m₂ = m₂ ≡ m₁
+Same (in-lot i) m₁ m₂ = Becomes i m₁ m₂ (viewOf m₁ i)
+Same in-all-lots m₁ m₂ = (length m₂ ≡ length m₁) × ((i : ℕ) → viewOf m₂ i ≡ viewOf m₁ i)
