@@ -1,36 +1,57 @@
--- Demand 2 over runs of calls: at each close the pieces installed, the list given and every record are the model's. Assumes nothing.
+-- Demand 2, closing: at each close the pieces installed, the list given and every record are the model's. Assumes nothing.
 use Prim.Native.Nat.{ℕ, _*_}
 use mathlib.Core.Path.{_≡_, refl, sym, ap, _∙_}
-use mathlib.Core.List.{List, [], _∷_}
+use mathlib.Core.Bool.{Bool, true, false}
+use mathlib.Core.List.{List, [], _∷_, _++_}
 use native.Mathlib.Omega.{arith}
+use lib.Dec.{ltb}
 use lib.ListN.{length, drop}
 use lib.Seq.{drop-at}
-use Rattle.model.specs.Account.{Account, fresh}
-use Rattle.model.specs.Closing.{Piece, close, listed}
-use Rattle.model.specs.Runs.{run}
+use Rattle.model.specs.Lists.{if_then_else_}
+use Rattle.model.specs.Account.{Account}
+use Rattle.model.specs.Closing.{Piece, judgeClose, close, listed}
+use Rattle.model.specs.declared.Outcome.{Outcome}
+use Rattle.model.specs.declared.Outcome.the-variants.{Done, Refused}
+use Rattle.model.specs.declared.Refusal.the-variants.{TooShort}
 use Rattle.model.specs.declared.Closed.the-variants.{Pieces}
 use Rattle.model.proofs.Tests.{no-way}
 use Rattle.lots.specs.Memory.{Named, refused, found, named}
 use Rattle.epoch.specs.Closed.{pairs}
-use Rattle.closing.specs.Closing.{closeOf}
+use Rattle.closing.specs.Closing.{LEAST-LIST, judgeRoom, closeJudged, closeOf}
 use Rattle.standby.specs.Closing.{EpochClosed, closeFrom, closeAnswer}
 use Rattle.promises.specs.Runs as runs
-use Rattle.promises.specs.Runs.{Step, closes, close-epoch, Turn}
+use Rattle.promises.specs.Runs.{Step, closes, close-epoch}
+use Rattle.promises.specs.Own.{firstPieces}
 use Rattle.promises.specs.Holding.{Holding}
-use Rattle.promises.specs.Followed.{stepsIn, OpenedRun}
 use Rattle.promises.specs.Closes.{ClosedByModel}
 use Rattle.promises.proofs.Answered.{same-account, read-answered}
-use Rattle.promises.proofs.Following.{pieces-back, judged-close, run-number, opened-followed}
 
--- ---- a close
+-- ---- the list of a close, read back
+
+pieces-back : (ps : List Piece) (rest : List ℕ) → firstPieces (length ps) (pairs ps ++ rest) ≡ ps
+unfolding firstPieces pairs
+pieces-back [] rest = refl
+pieces-back (p ∷ ps) rest = ap (λ l. p ∷ l) (pieces-back ps rest)
 
 pairs-length : (ps : List Piece) → length (pairs ps) ≡ 2 * length ps
 unfolding pairs
 pairs-length [] = refl
 pairs-length (p ∷ ps) = omega (arith, pairs-length ps)
 
+-- ---- the close
+
+-- a close that is done was possible, and counts the pieces
+judged-close : (a : Account) (room : ℕ) {count : ℕ} → Pieces count ≡ closeOf a room → (judgeClose a ≡ Done) × (count ≡ length (listed a))
+unfolding judgeRoom
+judged-close a room {count} e = go (ltb room LEAST-LIST) (judgeClose a) refl e
+  where
+    go : (b : Bool) (o : Outcome) → judgeClose a ≡ o → Pieces count ≡ closeJudged (if b then Refused TooShort else o) (length (listed a)) → (judgeClose a ≡ Done) × (count ≡ length (listed a))
+    go true o q e = no-way cc
+    go false Done q e = (q, cc)
+    go false (Refused r) q e = no-way cc
+
 module _ (m : List ℕ) {number lot : ℕ} {a : Account} (h : Holding number lot m a) where
-  closed-by-model : {lots count : ℕ} {list list' m' : List ℕ} → EpochClosed m m' lots lot number list list' (Pieces count) → ClosedByModel number lot a count list list' m'
+  pub closed-by-model : {lots count : ℕ} {list list' m' : List ℕ} → EpochClosed m m' lots lot number list list' (Pieces count) → ClosedByModel number lot a count list list' m'
   unfolding closeAnswer close
   closed-by-model {lots} {count} {list} {list'} {m'} w = go (named m lots lot number) refl (w .answer)
     where
@@ -51,9 +72,3 @@ module _ (m : List ℕ) {number lot : ℕ} {a : Account} (h : Holding number lot
 -- a close of any account in its lot
 pub close-is-the-models : {m m' : List ℕ} {number lot lots count : ℕ} {list list' : List ℕ} {a : Account} → Holding number lot m a → Step m (close-epoch lots lot number list) (runs.closed (Pieces count) list') m' → ClosedByModel number lot a count list list' m'
 close-is-the-models {m} h (closes w) = closed-by-model m h w
-
--- so each close of a run: what was accepted and closed before it is the account that it closes
-pub each-close : {number f k lot : ℕ} {before : List Turn} {m m' : List ℕ} {lots count : ℕ} {list list' : List ℕ} → OpenedRun number f k lot before m → Step m (close-epoch lots lot number list) (runs.closed (Pieces count) list') m'
-    → ClosedByModel number lot (run (stepsIn number lot before) (fresh number f k)) count list list' m'
-unfolding fresh
-each-close {number} {f} {k} {lot} {before} o s = close-is-the-models (record { held = opened-followed o .held; numbered = run-number (stepsIn number lot before) (fresh number f k) }) s

@@ -1,17 +1,17 @@
 -- One account over a run: whatever other calls come between, its lot holds at the end what the entries accepted and the epochs closed make of it in the model, and its closes wrote the model's lists. Assumes nothing.
-use Prim.Native.Nat.{ℕ, _*_}
+use Prim.Native.Nat.{ℕ}
 use mathlib.Core.Path.{_≡_, refl, sym, ap, _∙_}
-use mathlib.Core.Bool.{Bool, true, false, not, _&&_}
-use mathlib.Core.List.{List, [], _∷_, _++_, append-assoc}
-use lib.Dec.{ltb, eqb}
-use lib.ListN.{length, drop}
+use mathlib.Core.Bool.{Bool, true, false, not}
+use mathlib.Core.List.{List, [], _∷_, _++_}
+use lib.Dec.{eqb}
+use lib.ListN.{length}
 use borrow.Author.Tests.{eqb-true}
 use Rattle.model.specs.Lists.{if_then_else_}
 use Rattle.model.specs.Entry.{LENGTH, entryOf}
 use Rattle.model.specs.Account.{Account, fresh}
 use Rattle.model.specs.Taking as taking
 use Rattle.model.specs.Taking.{judgeEntry, judge}
-use Rattle.model.specs.Closing.{Piece, close, listed, judgeClose}
+use Rattle.model.specs.Closing.{Piece, close, listed}
 use Rattle.model.specs.Runs as model
 use Rattle.model.specs.Runs.{run, lists, Allowed}
 use Rattle.model.specs.declared.Outcome.{Outcome}
@@ -19,19 +19,20 @@ use Rattle.model.specs.declared.Outcome.the-variants.{Done, Refused}
 use Rattle.model.specs.declared.Opened.the-variants.{InLot}
 use Rattle.model.specs.declared.Closed.{Closed}
 use Rattle.model.specs.declared.Closed.the-variants.{Pieces, NotClosed}
-use Rattle.model.specs.declared.Refusal.the-variants.{WrongLength, TooShort}
+use Rattle.model.specs.declared.Refusal.the-variants.{WrongLength}
 use Rattle.model.proofs.Tests.{no-way, and-l, and-r}
 use Rattle.lot.specs.View.{viewLot, holds}
-use Rattle.epoch.specs.Closed.{pairs}
-use Rattle.closing.specs.Closing.{LEAST-LIST, judgeRoom, closeOf, closeJudged}
 use Rattle.lots.specs.Memory.{viewOf, Named, refused, found, named}
 use Rattle.standby.specs.Calls.{Delivered, deliverTo, deliverAnswer, TakenBy}
-use Rattle.standby.specs.Closing.{EpochClosed, closeFrom, closeAnswer, ClosedAs}
-use Rattle.promises.specs.Runs.{Call, open-account, Reply, opened, Step, starts, opens, delivers, closes, reads, saves, loads, drops, overviews, Turn, Run, ends, goes}
-use Rattle.promises.specs.Own.{taken, closing, doneBy, firstPieces, listing, listedBy, names, isOwn, isEnd, Kept, ownTurns, stepsOf, listsOf}
+use Rattle.standby.specs.Closing.{EpochClosed}
+use Rattle.promises.specs.Runs as runs
+use Rattle.promises.specs.Runs.{Call, open-account, close-epoch, Reply, opened, Step, starts, opens, delivers, closes, reads, saves, loads, drops, overviews, Turn, Run, ends, goes}
+use Rattle.promises.specs.Own.{taken, closing, doneBy, listing, listedBy, names, isOwn, Kept, ownTurns, stepsOf, listsOf}
 use Rattle.promises.specs.Holding.{Holding}
-use Rattle.promises.specs.Followed.{Followed, OpenedRun}
+use Rattle.promises.specs.Followed.{stepsIn, Followed, OpenedRun}
+use Rattle.promises.specs.Closes.{ClosedByModel}
 use Rattle.promises.proofs.Answered.{same-account}
+use Rattle.promises.proofs.Closes.{closed-by-model, close-is-the-models}
 use Rattle.promises.proofs.Isolation.{other-calls-leave}
 
 -- ---- the model's steps, one list after another
@@ -72,13 +73,6 @@ run-fragments [] a = refl
 run-fragments (model.taking e ∷ ss) a = run-fragments ss (taking.taken e a)
 run-fragments (model.closing ∷ ss) a = run-fragments ss (close a)
 
--- ---- the list of a close, read back
-
-pub pieces-back : (ps : List Piece) (rest : List ℕ) → firstPieces (length ps) (pairs ps ++ rest) ≡ ps
-unfolding firstPieces pairs
-pieces-back [] rest = refl
-pieces-back (p ∷ ps) rest = ap (λ l. p ∷ l) (pieces-back ps rest)
-
 -- ---- one step that names the account and its lot
 
 -- steps and lists that one turn adds
@@ -95,56 +89,40 @@ judged-entry a entry e = go (eqb (length entry) LENGTH) e
     go false e = no-way cc
     go true e = sym e
 
--- a close that is done was possible, and counts the pieces
-pub judged-close : (a : Account) (room : ℕ) {count : ℕ} → Pieces count ≡ closeOf a room → (judgeClose a ≡ Done) × (count ≡ length (listed a))
-unfolding judgeRoom
-judged-close a room {count} e = go (ltb room LEAST-LIST) (judgeClose a) refl e
-  where
-    go : (b : Bool) (o : Outcome) → judgeClose a ≡ o → Pieces count ≡ closeJudged (if b then Refused TooShort else o) (length (listed a)) → (judgeClose a ≡ Done) × (count ≡ length (listed a))
-    go true o q e = no-way cc
-    go false Done q e = (q, cc)
-    go false (Refused r) q e = no-way cc
-
-module _ (m : List ℕ) (lot number : ℕ) {a : Account} (v : viewOf m lot ≡ holds a) where
+module _ (m : List ℕ) {number lot : ℕ} {a : Account} (h : Holding number lot m a) where
   delivered : {m' : List ℕ} {lots : ℕ} {entry : List ℕ} {r : Outcome} → Delivered m m' lots lot number entry r → Adds lot (taken entry r) [] a m'
   unfolding deliverAnswer run lists Allowed
   delivered {m'} {lots} {entry} {r} w = go r (named m lots lot number) refl (w .answer) (w .taken)
     where
       go : (r : Outcome) (n : Named) → named m lots lot number ≡ n → r ≡ deliverTo n entry → TakenBy m m' lot entry r → Adds lot (taken entry r) [] a m'
       go Done (refused s) q e u = no-way cc
-      go Done (found b) q e u = record { held = u .1 a v; allowed = (judged-entry a entry (e ∙ ap (λ c. judge c entry) (same-account m lots lot number v q)), tt); listed = refl }
-      go (Refused s) n q e u = record { held = rw u v; allowed = tt; listed = refl }
+      go Done (found b) q e u = record { held = u .1 a (h .held); allowed = (judged-entry a entry (e ∙ ap (λ c. judge c entry) (same-account m lots lot number (h .held) q)), tt); listed = refl }
+      go (Refused s) n q e u = record { held = rw u (h .held); allowed = tt; listed = refl }
 
   closed : {m' : List ℕ} {lots : ℕ} {list list' : List ℕ} {r : Closed} → EpochClosed m m' lots lot number list list' r → Adds lot (closing r) (listing r list') a m'
-  unfolding closeAnswer run lists Allowed
-  closed {m'} {lots} {list} {list'} {r} w = go r (named m lots lot number) refl (w .answer) (w .closed)
-    where
-      go : (r : Closed) (n : Named) → named m lots lot number ≡ n → r ≡ closeFrom n (length list) → ClosedAs m m' lot list list' r → Adds lot (closing r) (listing r list') a m'
-      go (Pieces count) (refused s) q e u = no-way cc
-      go (Pieces count) (found b) q e u =
-          let j = judged-close a (length list) (e ∙ ap (λ c. closeOf c (length list)) (same-account m lots lot number v q)) in
-          record { held = u .1 a v .0; allowed = (j .0, tt); listed = ap (λ l. l ∷ []) (rw (u .1 a v .1, j .1) (pieces-back (listed a) (drop (2 * length (listed a)) list))) }
-      go (NotClosed s) n q e u = record { held = rw (u .0) v; allowed = tt; listed = refl }
+  unfolding run lists Allowed
+  closed {r = Pieces count} w = let c = closed-by-model m h w in record { held = c .held; allowed = (c .possible, tt); listed = ap (λ l. l ∷ []) (c .pieces) }
+  closed {r = NotClosed s} w = record { held = rw (w .closed .0) (h .held); allowed = tt; listed = refl }
 
   -- the other two write nothing in the memory
   unchanged : Adds lot [] [] a m
   unfolding run lists Allowed
-  unchanged = record { held = v; allowed = tt; listed = refl }
+  unchanged = record { held = h .held; allowed = tt; listed = refl }
 
 named-both : (number lot i n : ℕ) → names number lot i n ≡ true → (i ≡ lot) × (n ≡ number)
 named-both number lot i n e = (eqb-true i lot (and-l (eqb i lot) _ e), eqb-true n number (and-r (eqb i lot) _ e))
 
-own-step : {m m' : List ℕ} (number lot : ℕ) {c : Call} {r : Reply} {a : Account} → Step m c r m' → isOwn number lot c ≡ true → viewOf m lot ≡ holds a → Adds lot (doneBy c r) (listedBy r) a m'
+own-step : {m m' : List ℕ} {number lot : ℕ} {c : Call} {r : Reply} {a : Account} → Holding number lot m a → Step m c r m' → isOwn number lot c ≡ true → Adds lot (doneBy c r) (listedBy r) a m'
 unfolding isOwn
-own-step number lot (starts w) o v = no-way o
-own-step number lot (opens w) o v = no-way o
-own-step {m} number lot (delivers {lot = i} {number = n} w) o v = delivered m lot number v (let e = named-both number lot i n o in rw (e .0, e .1) at w)
-own-step {m} number lot (closes {lot = i} {number = n} w) o v = closed m lot number v (let e = named-both number lot i n o in rw (e .0, e .1) at w)
-own-step {m} number lot (reads w) o v = unchanged m lot number v
-own-step {m} number lot (saves w) o v = unchanged m lot number v
-own-step number lot (loads w) o v = no-way o
-own-step number lot (drops w) o v = no-way o
-own-step number lot (overviews w) o v = no-way o
+own-step h (starts w) o = no-way o
+own-step h (opens w) o = no-way o
+own-step {m} {number = number} {lot} h (delivers {lot = i} {number = n} w) o = delivered m h (let e = named-both number lot i n o in rw (e .0, e .1) at w)
+own-step {m} {number = number} {lot} h (closes {lot = i} {number = n} w) o = closed m h (let e = named-both number lot i n o in rw (e .0, e .1) at w)
+own-step {m} h (reads w) o = unchanged m h
+own-step {m} h (saves w) o = unchanged m h
+own-step h (loads w) o = no-way o
+own-step h (drops w) o = no-way o
+own-step h (overviews w) o = no-way o
 
 -- ---- the whole run
 
@@ -172,7 +150,7 @@ followed {m' = m'} {number} {lot} {a = a} h (goes {m} {m₁} {c = c} {r = r} {ts
   where
     go : (t : Bool) → isOwn number lot c ≡ t → ((b : Account) → Holding number lot m₁ b → Followed number lot ts b m') → Followed number lot (record { call = c; reply = r } ∷ ts) a m'
     go true o next =
-        let x = own-step number lot s o (h .held) in
+        let x = own-step h s o in
         own-turn number lot c r o (x .allowed) (x .listed) (next (run (doneBy c r) a) (record { held = x .held; numbered = run-number (doneBy c r) a ∙ h .numbered }))
     go false o next = other-turn number lot c r o (next a (record { held = ap viewLot (other-calls-leave h s o (k .0)) ∙ h .held; numbered = h .numbered }))
 
@@ -183,3 +161,9 @@ opened-followed {number} {f} {k} {lot} {rest} {m'} w = go (w .runs)
   where
     go : Run (w .m) (record { call = open-account (w .lots) number f k; reply = opened (InLot lot) } ∷ rest) m' → Followed number lot rest (fresh number f k) m'
     go (goes (opens u) us) = followed (record { held = u .opened .1; numbered = refl }) us (w .kept)
+
+-- so each close of a run is the model's: what was accepted and closed before it is the account that it closes
+pub each-close : {number f k lot : ℕ} {before : List Turn} {m m' : List ℕ} {lots count : ℕ} {list list' : List ℕ} → OpenedRun number f k lot before m → Step m (close-epoch lots lot number list) (runs.closed (Pieces count) list') m'
+    → ClosedByModel number lot (run (stepsIn number lot before) (fresh number f k)) count list list' m'
+unfolding fresh
+each-close {number} {f} {k} {lot} {before} o s = close-is-the-models (record { held = opened-followed o .held; numbered = run-number (stepsIn number lot before) (fresh number f k) }) s

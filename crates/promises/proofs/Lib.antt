@@ -9,10 +9,10 @@ pub mod Exist
 pub mod Wrong
 -- demands 2 and 3: one account over a run
 pub mod Answered
+pub mod Closes
 pub mod Following
 pub mod Order
 pub mod Rules
-pub mod Closes
 pub mod RoundTrips
 pub mod Reached
 pub mod Worked

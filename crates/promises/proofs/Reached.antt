@@ -1,16 +1,14 @@
 -- Whatever the model allows can be had by calls: from any memory in which an account can be opened there is a run that opens it, has these entries accepted and closes these epochs, in this order. So the premises of demand 3 can be met. Assumes nothing.
 use Prim.Native.Nat.{ℕ, _+_, _*_, _-_, _/_, _%_, _≤_}
-use mathlib.Core.Path.{_≡_, refl, sym, ap, _∙_}
-use mathlib.Core.Bool.{Bool, true, false}
+use mathlib.Core.Path.{_≡_, refl, ap, _∙_}
+use mathlib.Core.Bool.{true}
 use mathlib.Core.List.{List, [], _∷_, _++_}
 use native.Mathlib.Omega.{arith}
-use lib.Dec.{ltb, eqb}
 use lib.ListN.{length, drop, replicate}
 use borrow.Author.Tests.{eq-eqb, lt-ltb, le-ltb}
 use Rattle.wire.specs.Numbers.{number16, number32, bytes16, bytes32}
-use Rattle.model.specs.Lists.{if_then_else_}
 use Rattle.model.specs.Entry.{LENGTH, entryOf}
-use Rattle.model.specs.Account.{Account, fresh, accountFits}
+use Rattle.model.specs.Account.{Account, fresh}
 use Rattle.model.specs.Accepting.{WellFormed}
 use Rattle.model.specs.Taking as taking
 use Rattle.model.specs.Taking.{judgeEntry, judge}
@@ -28,13 +26,13 @@ use Rattle.model.proofs.Keeping.{fresh-well-formed, taken-well-formed, closed-w
 use Rattle.lot.specs.View.{holds}
 use Rattle.lot.proofs.Views.{holds-well-formed}
 use Rattle.epoch.specs.Closed.{pairs}
-use Rattle.closing.specs.Closing.{closeOf, closeJudged, judgeRoom}
-use Rattle.lots.specs.Memory.{memoryFits, lotFits, lotOf, viewOf, OnlyLot, Becomes, accountIn, named, found}
+use Rattle.closing.specs.Closing.{judgeRoom}
+use Rattle.lots.specs.Memory.{memoryFits, lotFits, lotOf, viewOf, Becomes, named, found}
 use Rattle.lots.proofs.Parts.{lot-inside}
-use Rattle.standby.specs.Calls.{openAnswer, AccountOpened, deliverAnswer, Delivered}
+use Rattle.standby.specs.Calls.{openAnswer, deliverAnswer, Delivered}
 use Rattle.standby.specs.Closing.{closeAnswer, EpochClosed}
 use Rattle.standby.specs.Images.{saveAnswer}
-use Rattle.promises.specs.Runs.{open-account, deliver, close-epoch, save-account, outcome, opened, closed, saved, Step, opens, delivers, closes, saves, Turn, Run, ends, goes}
+use Rattle.promises.specs.Runs.{deliver, close-epoch, save-account, outcome, opened, closed, saved, Step, opens, delivers, closes, saves, Turn, Run, ends, goes}
 use Rattle.promises.specs.Own.{names, isOwn, isEnd, Kept, ownTurns, stepsOf}
 use Rattle.promises.specs.Holding.{Holding}
 use Rattle.promises.specs.Followed.{stepsIn, OpenedRun}

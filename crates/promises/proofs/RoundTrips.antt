@@ -1,8 +1,8 @@
 -- Demand 2 over runs of calls, saving and loading: a saved image loads to the account it was saved from, in any memory that has room for it and whatever calls come between, and goes on alike there; an accepted image saves to the same bytes. Assumes nothing.
 use Prim.Native.Nat.{ℕ, _≤_}
-use mathlib.Core.Path.{_≡_, refl, sym, ap, _∙_}
+use mathlib.Core.Path.{_≡_, refl, sym, _∙_}
 use mathlib.Core.Bool.{true}
-use mathlib.Core.List.{List, _++_}
+use mathlib.Core.List.{List}
 use lib.ListN.{length, take}
 use Rattle.model.specs.Image.{LONGEST-IMAGE}
 use Rattle.model.specs.Runs.{run}
@@ -14,10 +14,9 @@ use Rattle.lot.specs.View.{holds}
 use Rattle.lots.specs.Memory.{lotFits, viewOf}
 use Rattle.standby.specs.Images.{AccountSaved, AccountLoaded}
 use Rattle.standby.proofs.Saving.{saving}
-use Rattle.standby.proofs.RoundTrips.{SaveCall, LoadCall, first-bytes, RoomFor, LoadedBack, saved-image-loads, SavedBack, accepted-image-saves}
+use Rattle.standby.proofs.RoundTrips.{SaveCall, LoadCall, EndsWith, first-bytes, RoomFor, LoadedBack, saved-image-loads, SavedBack, accepted-image-saves}
 use Rattle.promises.specs.Runs.{save-account, load-account, saved, opened, Step, saves, loads, Turn, Run}
 use Rattle.promises.specs.Own.{Kept}
-use Rattle.promises.specs.Holding.{Holding}
 use Rattle.promises.specs.Followed.{SameAccepted}
 use Rattle.promises.specs.Images.{SameImage, KeptSinceLoad}
 use Rattle.promises.proofs.Placing.{loaded-placed}
@@ -27,10 +26,10 @@ use Rattle.promises.proofs.Order.{same-account-on}
 
 -- ---- a step of a run, as the call whose contract it satisfies
 
-save-kept : {m m' : List ℕ} {lots lot number : ℕ} {buffer buffer' : List ℕ} {r : Saved} → Step m (save-account lots lot number buffer) (saved r buffer') m' → AccountSaved m lots lot number buffer buffer' r
+pub save-kept : {m m' : List ℕ} {lots lot number : ℕ} {buffer buffer' : List ℕ} {r : Saved} → Step m (save-account lots lot number buffer) (saved r buffer') m' → AccountSaved m lots lot number buffer buffer' r
 save-kept (saves w) = w
 
-load-kept : {m m' : List ℕ} {lots : ℕ} {given : List ℕ} {r : Opened} → Step m (load-account lots given) (opened r) m' → AccountLoaded m m' lots given r
+pub load-kept : {m m' : List ℕ} {lots : ℕ} {given : List ℕ} {r : Opened} → Step m (load-account lots given) (opened r) m' → AccountLoaded m m' lots given r
 load-kept (loads w) = w
 
 abbrev pub saveCall : {m m' : List ℕ} {lots lot number : ℕ} {buffer buffer' : List ℕ} {r : Saved} → Step m (save-account lots lot number buffer) (saved r buffer') m' → SaveCall
@@ -41,11 +40,11 @@ loadCall {m} {m'} {lots} {given} {r} s = record { memory-before = m; memory-afte
 
 -- ---- save, then load
 
--- a save in one memory, and a load in any memory m₂ of data that end with the n bytes that it wrote
-module _ {m m₀ m₂ m₂' : List ℕ} {number lot lots lots₂ n : ℕ} {buffer buffer' front : List ℕ} {r : Opened}
-    (save : Step m (save-account lots lot number buffer) (saved (Length n) buffer') m₀) (again : Step m₂ (load-account lots₂ (front ++ take n buffer')) (opened r) m₂') where
-  pub saved-loads : RoomFor m₂ lots₂ number → LoadedBack (saveCall save) (loadCall again)
-  saved-loads room = saved-image-loads (saveCall save) (loadCall again) (first-bytes (saveCall save) refl) (record { front = front; ends = refl }) room
+-- a save in one memory that was answered n, and a load in any memory m₂; the data given end with the n bytes that the save wrote
+module _ {m m₀ m₂ m₂' : List ℕ} {number lot lots lots₂ n : ℕ} {buffer buffer' given : List ℕ} {r : Opened}
+    (save : Step m (save-account lots lot number buffer) (saved (Length n) buffer') m₀) (again : Step m₂ (load-account lots₂ given) (opened r) m₂') where
+  pub saved-loads : EndsWith given (take n buffer') → RoomFor m₂ lots₂ number → LoadedBack (saveCall save) (loadCall again)
+  saved-loads ends room = saved-image-loads (saveCall save) (loadCall again) (first-bytes (saveCall save) refl) ends room
 
   module _ (back : LoadedBack (saveCall save) (loadCall again)) where
     -- a save there writes the same bytes

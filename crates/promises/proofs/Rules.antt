@@ -5,11 +5,11 @@ use mathlib.Core.Logic.{_⊎_}
 use mathlib.Core.Bool.{Bool, true, false, _&&_}
 use mathlib.Core.List.{List, [], _∷_}
 use native.Mathlib.Omega.{arith}
-use lib.Dec.{leb, eqb}
+use lib.Dec.{leb}
 use borrow.Author.Tests.{leb-true, eqb-true, le-leb, eq-eqb}
 use Rattle.model.specs.Lists.{if_then_else_}
 use Rattle.model.specs.Entry.{PUT, DELETE, P, CC, CP}
-use Rattle.model.specs.Account.{Held, key, Record, absent, Account, fresh}
+use Rattle.model.specs.Account.{Held, key, Record, absent, fresh}
 use Rattle.model.specs.Closing.{writesTo, written, afterWrites}
 use Rattle.model.specs.Runs.{run}
 use Rattle.model.specs.Rules.{inEpochs, At, here, there, Stands, Is}
