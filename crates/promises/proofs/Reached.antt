@@ -1,5 +1,5 @@
 -- Whatever the model allows can be had by calls: from any memory in which an account can be opened there is a run that opens it, has these entries accepted and closes these epochs, in this order. So the premises of demand 3 can be met. Assumes nothing.
-use Prim.Native.Nat.{ℕ, _+_, _*_, _-_, _/_, _%_, _≤_}
+use Prim.Native.Nat.{ℕ, _+_, _*_, _/_, _%_, _<_, _≤_}
 use mathlib.Core.Path.{_≡_, refl, ap, _∙_}
 use mathlib.Core.Bool.{true}
 use mathlib.Core.List.{List, [], _∷_, _++_}
@@ -24,18 +24,22 @@ use Rattle.model.specs.declared.Saved.the-variants.{Length}
 use Rattle.model.proofs.Tests.{and}
 use Rattle.model.proofs.Keeping.{fresh-well-formed, taken-well-formed, closed-well-formed}
 use Rattle.lot.specs.View.{holds}
+use Rattle.lot.specs.Writing.{foundOf}
 use Rattle.lot.proofs.Views.{holds-well-formed}
 use Rattle.epoch.specs.Closed.{pairs}
-use Rattle.closing.specs.Closing.{judgeRoom}
+use Rattle.closing.specs.Closing.{LEAST-LIST, judgeRoom}
 use Rattle.lots.specs.Memory.{memoryFits, lotFits, lotOf, viewOf, Becomes, named, found}
 use Rattle.lots.proofs.Parts.{lot-inside}
-use Rattle.standby.specs.Calls.{openAnswer, deliverAnswer, Delivered}
+use Rattle.standby.specs.Calls.{openAnswer, deliverAnswer, Delivered, readAnswer}
 use Rattle.standby.specs.Closing.{closeAnswer, EpochClosed}
 use Rattle.standby.specs.Images.{saveAnswer}
-use Rattle.promises.specs.Runs.{deliver, close-epoch, save-account, outcome, opened, closed, saved, Step, opens, delivers, closes, saves, Turn, Run, ends, goes}
+use Rattle.promises.specs.Runs as runs
+use Rattle.promises.specs.Runs.{Reply, open-account, deliver, read-record, close-epoch, save-account, outcome, opened, closed, saved, Step, opens, delivers, closes, reads, saves, Turn, Run, ends, goes}
 use Rattle.promises.specs.Own.{names, isOwn, isEnd, Kept, ownTurns, stepsOf}
 use Rattle.promises.specs.Holding.{Holding}
 use Rattle.promises.specs.Followed.{stepsIn, OpenedRun}
+use Rattle.promises.proofs.Following.{run-number, opened-followed}
+use Rattle.promises.proofs.Written.{length-kept}
 use Rattle.promises.proofs.Placing.{opened-placed}
 use Rattle.promises.proofs.Lots.{lot-with, becomes}
 
@@ -127,6 +131,23 @@ module _ {number lots lot : ℕ} {m : List ℕ} {a : Account} (r : Ready number 
       answer : Length (length (image a)) ≡ saveAnswer m lots lot number buffer
       answer = rw (is-found, le-ltb (length buffer) LONGEST-IMAGE room)
 
+-- ---- whatever step it is, what close, read and save are answered there
+
+module _ {number lots lot : ℕ} {m : List ℕ} {a : Account} (here : Ready number lots lot m a) where
+  pub closes-as : {m' : List ℕ} {r : Reply} (list : List ℕ) → LEAST-LIST ≤ length list → judgeClose a ≡ Done → Step m (close-epoch lots lot number list) r m' → (list' : List ℕ) × Step m (close-epoch lots lot number list) (closed (Pieces (length (listed a))) list') m'
+  unfolding closeAnswer judgeRoom
+  closes-as list room j (closes {list' = list'} {r = o} w) =
+      let e : o ≡ Pieces (length (listed a)) = w .answer ∙ rw (is-found here, le-ltb (length list) LEAST-LIST room, j) in
+      (list', closes (rw e at w))
+
+  pub reads-as : {m' : List ℕ} {r : Reply} (i k : ℕ) → i < a .fragments → k < a .keys → Step m (read-record lots lot number i k) r m' → r ≡ runs.found (foundOf (a .at i .records k))
+  unfolding readAnswer
+  reads-as i k f l (reads w) = ap runs.found (w ∙ rw (is-found here, lt-ltb i (a .fragments) f, lt-ltb k (a .keys) l))
+
+  pub saves-as : {m' : List ℕ} {r : Reply} (buffer : List ℕ) → LONGEST-IMAGE ≤ length buffer → Step m (save-account lots lot number buffer) r m' → (buffer' : List ℕ) × (r ≡ saved (Length (length (image a))) buffer')
+  unfolding saveAnswer
+  saves-as buffer room (saves {buffer' = buffer'} w) = (buffer', ap (λ o. saved o buffer') (w .answer ∙ rw (is-found here, le-ltb (length buffer) LONGEST-IMAGE room)))
+
 -- ---- a whole run
 
 -- a run, from a memory in which account a stands in its lot, whose calls of the account had these entries accepted and these epochs closed
@@ -191,3 +212,25 @@ every-run m number f k lots lot ss e l =
       steps = w .steps;
       ready = w .ready;
     }
+
+-- ---- at the end of every run that opens the account
+
+run-long : {m m' : List ℕ} {ts : List Turn} → Run m ts m' → length m' ≡ length m
+run-long ends = refl
+run-long (goes s w) = run-long w ∙ length-kept s
+
+-- the account stands there, by the lot count with which it was opened
+pub opened-ready : {number f k lot : ℕ} {ts : List Turn} {m' : List ℕ} (o : OpenedRun number f k lot ts m') → Ready number (o .lots) lot m' (run (stepsIn number lot ts) (fresh number f k))
+unfolding fresh lotFits
+opened-ready {number} {f} {k} {lot} {ts} {m'} o = record {
+  there = still-there (o .lots) lot (o .m) m' (run-long (o .runs)) (first (o .runs));
+  here = record { held = opened-followed o .held; numbered = run-number (stepsIn number lot ts) (fresh number f k) };
+}
+  where
+    first : {m₂ : List ℕ} → Run (o .m) (record { call = open-account (o .lots) number f k; reply = opened (InLot lot) } ∷ ts) m₂ → lotFits (o .lots) lot (o .m) ≡ true
+    first (goes (opens w) us) = let p = opened-placed (o .m) (o .lots) number f k (w .answer) in and (p .0 .fits) (lt-ltb lot (o .lots) (p .0 .there))
+
+-- so a save with room for the longest image is answered its length
+pub save-answered : {number f k lot : ℕ} {ts : List Turn} {m' m'' : List ℕ} {r : Reply} (o : OpenedRun number f k lot ts m') (buffer : List ℕ) → LONGEST-IMAGE ≤ length buffer → Step m' (save-account (o .lots) lot number buffer) r m''
+    → (buffer' : List ℕ) × (r ≡ saved (Length (length (image (run (stepsIn number lot ts) (fresh number f k))))) buffer')
+save-answered o buffer room s = saves-as (opened-ready o) buffer room s

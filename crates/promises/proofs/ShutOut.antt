@@ -1,17 +1,16 @@
 -- Wrong standbys that demands 2 and 3 shut out: one whose close does nothing, one that truly installs epoch 1 and only counts later, one that saves an empty image always. Assumes nothing.
-use Prim.Native.Nat.{ℕ, _<_, _≤_}
+use Prim.Native.Nat.{ℕ, _≤_}
 use mathlib.Core.Path.{_≡_, refl, sym, ap, _∙_}
 use mathlib.Core.Logic.{_≢_}
 use mathlib.Core.List.{List, [], _∷_}
 use native.Mathlib.Omega.{arith}
 use lib.ListN.{length, replicate, length-replicate}
-use borrow.Author.Tests.{le-ltb, lt-ltb}
 use Rattle.model.specs.Lists.{filter, any}
 use Rattle.model.specs.Entry.{CC, CP}
 use Rattle.model.specs.Account.{absent, present, Account, fresh}
 use Rattle.model.specs.Taking.{stepped, hold, take, taken}
 use Rattle.model.specs.Closing.{judgeClose, upto, verdict, committed, pieces, left, survivors, afterWrites, apply, settle, close, listed}
-use Rattle.model.specs.Image.{image, LONGEST-IMAGE}
+use Rattle.model.specs.Image.{image}
 use Rattle.model.specs.Runs.{Step, taking, closing, run, Allowed}
 use Rattle.model.specs.declared.Outcome.the-variants.{Done}
 use Rattle.model.specs.declared.Closed.the-variants.{Pieces}
@@ -19,18 +18,14 @@ use Rattle.model.specs.declared.Saved.the-variants.{Length}
 use Rattle.model.proofs.Image.{image-length}
 use Rattle.model.proofs.Cases.{put, prepare, commit, mark, start, worked-allowed}
 use Rattle.lot.specs.Writing.{foundOf}
-use Rattle.closing.specs.Closing.{LEAST-LIST, judgeRoom}
 use Rattle.lots.specs.Memory.{viewOf}
-use Rattle.standby.specs.Calls.{readAnswer}
-use Rattle.standby.specs.Closing.{closeAnswer}
-use Rattle.standby.specs.Images.{saveAnswer}
 use Rattle.promises.specs.Runs as calls
-use Rattle.promises.specs.Runs.{Reply, close-epoch, read-record, save-account}
+use Rattle.promises.specs.Runs.{close-epoch, read-record, save-account}
 use Rattle.promises.specs.Holding.{Holding}
 use Rattle.promises.specs.Serving.{Standby, Serves}
 use Rattle.promises.proofs.Following.{allowed-split}
 use Rattle.promises.proofs.Closes.{close-is-the-models}
-use Rattle.promises.proofs.Reached.{Ready, is-found, ready-closed, ReachedRun, every-run}
+use Rattle.promises.proofs.Reached.{ready-closed, closes-as, reads-as, saves-as, ReachedRun, every-run}
 use Rattle.promises.proofs.Worked.{memory, opens-there}
 
 -- ---- a close that does nothing
@@ -43,23 +38,6 @@ close-does-something {a = a} h s e =
     let c = close-is-the-models h s in
     let same : close a ≡ a = cc (c .held, h .held) in
     omega (arith, ap (λ b. b .closed) same)
-
--- ---- what a step is answered, where the account stands in its lot
-
-module _ {number lots lot : ℕ} {m : List ℕ} {a : Account} (here : Ready number lots lot m a) where
-  closes-as : {m' : List ℕ} {r : Reply} (list : List ℕ) → LEAST-LIST ≤ length list → judgeClose a ≡ Done → calls.Step m (close-epoch lots lot number list) r m' → (list' : List ℕ) × calls.Step m (close-epoch lots lot number list) (calls.closed (Pieces (length (listed a))) list') m'
-  unfolding closeAnswer judgeRoom
-  closes-as list room j (calls.closes {list' = list'} {r = o} w) =
-      let e : o ≡ Pieces (length (listed a)) = w .answer ∙ rw (is-found here, le-ltb (length list) LEAST-LIST room, j) in
-      (list', calls.closes (rw e at w))
-
-  reads-as : {m' : List ℕ} {r : Reply} (i k : ℕ) → i < a .fragments → k < a .keys → calls.Step m (read-record lots lot number i k) r m' → r ≡ calls.found (foundOf (a .at i .records k))
-  unfolding readAnswer
-  reads-as i k f l (calls.reads w) = ap calls.found (w ∙ rw (is-found here, lt-ltb i (a .fragments) f, lt-ltb k (a .keys) l))
-
-  saves-as : {m' : List ℕ} {r : Reply} (buffer : List ℕ) → LONGEST-IMAGE ≤ length buffer → calls.Step m (save-account lots lot number buffer) r m' → (buffer' : List ℕ) × (r ≡ calls.saved (Length (length (image a))) buffer')
-  unfolding saveAnswer
-  saves-as buffer room (calls.saves {buffer' = buffer'} w) = (buffer', ap (λ o. calls.saved o buffer') (w .answer ∙ rw (is-found here, le-ltb (length buffer) LONGEST-IMAGE room)))
 
 -- ---- the worked case up to its second close
 
