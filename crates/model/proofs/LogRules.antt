@@ -225,16 +225,10 @@ module _ {number f k : ℕ} {ss : List Step} {wrote : ℕ → List Entry} (F : F
   late-in-log : (i p : ℕ) (h : Held) → At h (inEpochs (epochAfter 1 (first i)) (rest i)) p → At h (inEpochs 1 (log ss i)) (length (inEpochs 1 (first i)) + p)
   late-in-log i p h x = rw (part F i .splits, inEpochs-append 1 (first i) (rest i)) (at-second (inEpochs 1 (first i)) x)
 
-  -- no installed transaction writes after the mark of the last closed epoch
-  none-later : (i : ℕ) → i < f → (p : ℕ) (h : Held) → At h (inEpochs (epochAfter 1 (first i)) (rest i)) p → PUT ≤ h .kind → h .kind ≤ DELETE → isInstalled told i (h .transaction) ≡ true → ⊥
-  none-later i l p h x lo hi e = go (ℕ-discrete i (C .j))
+  -- what an installed transaction writes stands in an epoch that is closed
+  written-by : {i p : ℕ} {h : Held} → Stands f wrote i p h → PUT ≤ h .kind → h .kind ≤ DELETE → isInstalled told i (h .transaction) ≡ true → h .epoch ≤ m
+  written-by {i} {p} {h} s lo hi e = go (ℕ-discrete i (C .j))
     where
-      n : ℕ
-      n = length (inEpochs 1 (first i)) + p
-
-      there' : Stands f wrote i n h
-      there' = record { fragment = l; at = rw (F .first-part i l .splits) (at-whole 1 (log ss i) (F .first-part i l .rest) (late-in-log i p h x)) }
-
       by : Installed settled m i (h .transaction)
       by = installed-some i (h .transaction) e .1
 
@@ -244,21 +238,29 @@ module _ {number f k : ℕ} {ss : List Step} {wrote : ℕ → List Entry} (F : F
       commit : Stands f wrote (C .j) (C .q) (C .g)
       commit = stand F (C .taken)
 
-      late : C .g .epoch < h .epoch
-      late = omega (arith, in-stream (epochAfter 1 (first i)) (rest i) x .from, part F i .ends l, C .epoch, by .1)
-
-      go : Dec (i ≡ C .j) → ⊥
-      go (yes q) = place (decLt (C .q) n)
+      go : Dec (i ≡ C .j) → h .epoch ≤ m
+      go (yes q) = place (decLt (C .q) p)
         where
           here' : Stands f wrote i (C .q) (C .g)
           here' = subst (λ j. Stands f wrote j (C .q) (C .g)) (sym q) commit
 
-          place : Dec (C .q < n) → ⊥
-          place (yes b) = R .nothing-follows here' there' b (omega (arith, C .kind), omega (arith, C .kind), C .transaction) refl
-          place (no b) = omega (arith, late, rising 1 (wrote i) (there' .at) (here' .at) (omega arith))
+          place : Dec (C .q < p) → h .epoch ≤ m
+          place (yes b) = absurd (R .nothing-follows here' s b (omega (arith, C .kind), omega (arith, C .kind), C .transaction) refl)
+          place (no b) = omega (arith, rising 1 (wrote i) (s .at) (here' .at) (omega arith), C .epoch, by .1)
       go (no q) =
-          let r = R .prepared-after commit (C .kind, C .transaction) there' (lo, hi, refl) q in
-          omega (arith, late, R .prepared-by commit (C .kind, C .transaction) (r .3) (r .4), rising 1 (wrote i) (there' .at) (r .3 .at) (omega (arith, r .2)))
+          let r = R .prepared-after commit (C .kind, C .transaction) s (lo, hi, refl) q in
+          omega (arith, R .prepared-by commit (C .kind, C .transaction) (r .3) (r .4), rising 1 (wrote i) (s .at) (r .3 .at) (omega (arith, r .2)), C .epoch, by .1)
+
+  -- so it was taken
+  pub written-taken : {i p : ℕ} {h : Held} → Stands f wrote i p h → PUT ≤ h .kind → h .kind ≤ DELETE → isInstalled told i (h .transaction) ≡ true → At h (inEpochs 1 (log ss i)) p
+  written-taken {i} s lo hi e = rw (part F i .splits) (at-whole 1 (first i) (rest i) (within F s (written-by s lo hi e) .at))
+
+  -- and no installed transaction writes after the mark of the last closed epoch
+  none-later : (i : ℕ) → i < f → (p : ℕ) (h : Held) → At h (inEpochs (epochAfter 1 (first i)) (rest i)) p → PUT ≤ h .kind → h .kind ≤ DELETE → isInstalled told i (h .transaction) ≡ true → ⊥
+  none-later i l p h x lo hi e = omega (arith, written-by there' lo hi e, in-stream (epochAfter 1 (first i)) (rest i) x .from, part F i .ends l)
+    where
+      there' : Stands f wrote i (length (inEpochs 1 (first i)) + p) h
+      there' = record { fragment = l; at = rw (F .first-part i l .splits) (at-whole 1 (log ss i) (F .first-part i l .rest) (late-in-log i p h x)) }
 
   same-test : (i : ℕ) → i < f → done settled i m ≡ isInstalled told i
   same-test i l = fun-ext λ t. alike _ _ (λ e. some-installed i t l (done-installed settled i m t e)) (λ e. installed-done settled i m t (installed-some i t e .1))

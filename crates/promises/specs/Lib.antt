@@ -4,3 +4,7 @@ pub mod Holding
 pub mod Written
 pub mod Answers
 pub mod Serving
+pub mod Followed
+pub mod Primary
+pub mod Images
+pub mod Closes
