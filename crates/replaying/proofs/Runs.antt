@@ -7,7 +7,7 @@ use native.Mathlib.Omega.{arith}
 use borrow.Author.Tests.{eq-eqb}
 use lib.ListN.{length, take}
 use Rattle.model.specs.Lists.{if_then_else_, every}
-use Rattle.model.specs.Account.{Account, fresh}
+use Rattle.model.specs.Account.{Account, fresh, found}
 use Rattle.model.specs.declared.Refusal.the-variants.{UnfitAccount}
 use Rattle.model.specs.declared.Outcome.{Outcome}
 use Rattle.model.specs.declared.Outcome.the-variants.{Done}
@@ -15,7 +15,7 @@ use Rattle.model.specs.declared.Opened.{Opened}
 use Rattle.model.specs.declared.Opened.the-variants.{InLot, NotOpened}
 use Rattle.lot.specs.Layout.{SIZE}
 use Rattle.lot.specs.View.{free}
-use Rattle.lots.specs.Memory.{memoryFits, lotFits, viewOf, someBelow, lowestBelow, found, named}
+use Rattle.lots.specs.Memory.{memoryFits, lotFits, viewOf, someBelow, lowestBelow, named}
 use Rattle.standby.specs.Calls.{startAnswer, Started, placeFor, openAnswer, OpenedAs}
 use Rattle.lines.specs.Lines.{openLine}
 use Rattle.replaying.specs.declared.Header.{Header}
