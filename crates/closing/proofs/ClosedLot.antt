@@ -21,51 +21,56 @@ use Rattle.lot.specs.View.{holds, viewLot}
 use Rattle.lot.specs.Head.{headBytes}
 use Rattle.lot.specs.declared.Account as numbers
 use Rattle.lot.proofs.Shown.{head-shown}
-use Rattle.lot.proofs.Lengths.{length-places}
+use Rattle.lot.proofs.Lengths.{length-places, length-records, records-part}
 use Rattle.lot.proofs.Views.{holds-shown, holds-well-formed, shown-count, section-fits}
 use Rattle.lot.specs.Look.{Looked}
 use Rattle.lot.proofs.Looked.{looked-held, known}
-use Rattle.writes.specs.Sections.{WithHead, WithRecords}
-use Rattle.writes.proofs.Parts.{places-lent}
+use Rattle.writes.specs.Sections.{WithHead}
+use Rattle.writes.proofs.Parts.{places-lent, records-lent}
 use Rattle.writes.proofs.Changes.{sections-hold, streams-same}
-use Rattle.epoch.specs.Closed.{Closable, listedIn}
-use Rattle.epoch.specs.Closed as sections
-use Rattle.closing.specs.Closing.{Due, PlacesClosed, closedNumbers, CloseDone}
+use Rattle.survivors.specs.Left.{Left}
+use Rattle.epoch.specs.Closed.{Fits, Closable, listedIn, Installed}
+use Rattle.epoch.proofs.Closing.{stays-held}
+use Rattle.closing.specs.Closing.{Due, RecordsInstalled, PlacesKept, closedNumbers, CloseDone}
 use Rattle.closing.proofs.Judging.{next-epoch}
 
 -- ---- what may be closed
 
-pub closable : (l : List ℕ) {n : numbers.Account} (k : Looked l n) → ((i : ℕ) → getD l i 0 < 256) → (r list : List ℕ) → length r ≡ 5120 → 512 ≤ length list
-    → Closable (placesOf l) r list (n .fragments) (n .held) (n .closed)
+pub closes : (l : List ℕ) {n : numbers.Account} → Looked l n → Fits (n .fragments) (n .closed) (n .held) (placesOf l)
 unfolding accountFits
-closable l k b r list q room =
+closes l k =
     let h = looked-held l (k .seen) in
     let a = h .account in
     let w = known k a (h .holds-it) in
     let f = holds-well-formed l (h .holds-it) in
     let y = holds-shown l (h .holds-it) in
     let c = shown-count (placesOf l) (y .count) a (y .places) in
-    record {
-      places = length-places l (k .size);
-      records = q;
-      long = room;
-      most = rw (w .numbers-are) (w .room);
-      next = next-epoch l k b;
-      fits = rw (w .numbers-are) (record {
-        keys = a .keys;
-        counters = parse (a .fragments) 8 countersOf (streamsOf l);
-        few = w .few;
-        small = leb-true (a .keys) 128 (nth _ (f .fits) 5);
-        all = length-parse 8 countersOf (a .fragments) (streamsOf l);
-        fit = rw c (section-fits (headOf l) (streamsOf l) (placesOf l) (recordsOf l) a y f);
-      });
-    }
+    rw (w .numbers-are) (record {
+      keys = a .keys;
+      counters = parse (a .fragments) 8 countersOf (streamsOf l);
+      few = w .few;
+      small = leb-true (a .keys) 128 (nth _ (f .fits) 5);
+      all = length-parse 8 countersOf (a .fragments) (streamsOf l);
+      fit = rw c (section-fits (headOf l) (streamsOf l) (placesOf l) (recordsOf l) a y f);
+    })
+
+pub held-most : (l : List ℕ) {n : numbers.Account} → Looked l n → n .held ≤ 256
+held-most l k = let h = looked-held l (k .seen) in let w = known k (h .account) (h .holds-it) in rw (w .numbers-are) (w .room)
+
+pub closable : (l : List ℕ) {n : numbers.Account} (k : Looked l n) → ((i : ℕ) → getD l i 0 < 256) → (list : List ℕ) → 512 ≤ length list
+    → Closable (placesOf l) (recordsOf l) list (n .fragments) (n .held) (n .closed)
+closable l k b list room =
+    record { places = length-places l (k .size); records = length-records l (k .size); long = room; most = held-most l k; next = next-epoch l k b; fits = closes l k }
 
 -- ---- one section
 
-pub places-closed : (l q : List ℕ) (size : length l ≡ SIZE) {n : numbers.Account} {r r' list list' : List ℕ} {p left : ℕ} → length q ≡ 5120
-    → sections.Closed (n .fragments) (n .closed) (n .held) (placesOf l) q r r' list list' p left → PlacesClosed l (take 80 l ++ (q ++ drop 5120 (drop 80 l))) n r r' list list' p left
-places-closed l q size long e = let w = places-lent l q size long in record { places = rw (w .places) w; closed = rw (w .places) e }
+pub records-installed : (l q : List ℕ) (size : length l ≡ SIZE) {n : numbers.Account} {h list list' : List ℕ} {p : ℕ} {verdicts : List ℕ} → length q ≡ 5120
+    → Installed (n .fragments) (n .closed) (n .held) h (take 5120 (drop 5200 l)) q list list' p verdicts → RecordsInstalled l (take 5200 l ++ (q ++ drop 5120 (drop 5200 l))) n h list list' p verdicts
+records-installed l q size long e = let w = records-lent l q size long in record { records = rw (w .records) w; installed = rw (w .records) (rw (records-part l size) at e) }
+
+pub places-kept : (l q : List ℕ) (size : length l ≡ SIZE) {h verdicts : List ℕ} {n left : ℕ} → length q ≡ 5120
+    → left ≤ n → Left q left verdicts h n → PlacesKept l (take 80 l ++ (q ++ drop 5120 (drop 80 l))) h verdicts n left
+places-kept l q size long f e = let w = places-lent l q size long in record { places = rw (w .places) w; fewer = f; stay = rw (w .places) e }
 
 -- ---- the entries of a stream that there is not
 
@@ -98,13 +103,15 @@ module _ (l : List ℕ) {n : numbers.Account} {list : List ℕ} (d : Due l n lis
     unfolding listedIn listed installed
     listed-same = λ t. upward (a .fragments) 0 (λ i. map (λ x. record { fragment = i; transaction = x }) (pieces (verdict (committed e (held-same t)) (upto e (held-same t i))) (upto e (held-same t i))))
 
-  pub close-done : (l₁ l₂ l₃ r' list' : List ℕ) (p left : ℕ) → PlacesClosed l l₁ n (recordsOf l) r' list list' p left → WithRecords l₁ l₂ r' → WithHead l₂ l₃ (headBytes (closedNumbers n left)) → CloseDone l l₃ list list' p
+  pub close-done : (l₁ l₂ l₃ list' verdicts : List ℕ) (p left : ℕ) → RecordsInstalled l l₁ n (placesOf l) list list' p verdicts → PlacesKept l₁ l₂ (placesOf l) verdicts (n .held) left
+      → WithHead l₂ l₃ (headBytes (closedNumbers n left)) → CloseDone l l₃ list list' p
   unfolding close settle accountFits
-  close-done l₁ l₂ l₃ r' list' p left s c h a v =
+  close-done l₁ l₂ l₃ list' verdicts p left s c h a v =
       let w = known (d .looked) a v in
       let y = holds-shown l v in
       let f = holds-well-formed l v in
-      let x = rw (w .numbers-are) at (s .closed) in
+      let x = rw (w .numbers-are) at (s .installed) in
+      let k = rw (w .numbers-are) at (stays-held (closes l (d .looked)) verdicts (s .installed .verdicts) (c .stay)) in
       let z : a .closed + 1 ≡ suc (a .closed) = omega arith in
       let m : 2 * p ≡ p * 2 = omega arith in
       let u = leb-true (a .keys) 128 (nth _ (f .fits) 5) in
@@ -113,17 +120,17 @@ module _ (l : List ℕ) {n : numbers.Account} {list : List ℕ} (d : Due l n lis
         counted = x .counted ∙ rw (listed-same a v);
         list-is = rw (m, ← listed-same a v) (x .listed);
         view = sections-hold
-          (record { head = h .head ∙ rw (w .numbers-are, z); streams = h .streams ∙ c .streams ∙ s .places .streams; places = h .places ∙ c .places; records = h .records ∙ c .records })
+          (record { head = h .head ∙ rw (w .numbers-are, z); streams = h .streams ∙ c .places .streams ∙ s .records .streams; places = h .places; records = h .records ∙ c .places .records })
           (record {
             count = left;
             head = head-shown left (close a);
             streams = streams-same a (close a) refl (λ i. refl) (w .streams);
             places = record {
-              held = λ i q. x .held i ∙ (λ t. survivors (suc (a .closed)) (verdict (committed (suc (a .closed)) (g t)) (upto (suc (a .closed)) (g t i))) (g t i));
-              sorted = x .sorted;
-              plain-places = x .plain-places;
+              held = λ i q. k .held i ∙ (λ t. survivors (suc (a .closed)) (verdict (committed (suc (a .closed)) (g t)) (upto (suc (a .closed)) (g t i))) (g t i));
+              sorted = k .sorted;
+              plain-places = k .plain-places;
             };
-            records = λ i k q o. x .records i k q (omega arith) ∙ (λ t. apply (pieces (verdict (committed (suc (a .closed)) (g t)) (upto (suc (a .closed)) (g t i))) (upto (suc (a .closed)) (g t i))) k (upto (suc (a .closed)) (g t i)) (y .records i k q o t));
+            records = λ i j q o. x .records i j q (omega arith) ∙ (λ t. apply (pieces (verdict (committed (suc (a .closed)) (g t)) (upto (suc (a .closed)) (g t i))) (upto (suc (a .closed)) (g t i))) j (upto (suc (a .closed)) (g t i)) (y .records i j q o t));
           })
           (closed-well-formed f (sym (d .marked a v)));
       }

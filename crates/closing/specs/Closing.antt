@@ -9,12 +9,13 @@ use Rattle.model.specs.declared.Outcome.{Outcome}
 use Rattle.model.specs.declared.Outcome.the-variants.{Done}
 use Rattle.model.specs.declared.Closed.{Closed}
 use Rattle.model.specs.declared.Closed.the-variants.{Pieces, NotClosed}
-use Rattle.lot.specs.Layout.{placesOf}
+use Rattle.lot.specs.Layout.{placesOf, recordsOf}
 use Rattle.lot.specs.View.{holds, viewLot, accountIn}
 use Rattle.lot.specs.declared.Account as numbers
-use Rattle.writes.specs.Sections.{WithPlaces}
+use Rattle.writes.specs.Sections.{WithPlaces, WithRecords}
 use Rattle.lot.specs.Look.{Looked}
-use Rattle.epoch.specs.Closed as sections
+use Rattle.survivors.specs.Left as survivors
+use Rattle.epoch.specs.Closed.{Installed}
 
 -- ---- the judgement: 16, then 12
 
@@ -33,10 +34,16 @@ pub record Due (l : List ℕ) (n : numbers.Account) (list : List ℕ) : Type 0 w
   pub room : LEAST-LIST ≤ length list
   pub marked : MarksJudged l Done
 
--- the lot l' is l with the places that a close leaves, the records r and the list changed with them
-pub record PlacesClosed (l l' : List ℕ) (n : numbers.Account) (r r' list list' : List ℕ) (p left : ℕ) : Type 0 where
+-- the lot l' is l with the records that installing by the places h leaves, and the list is changed with them
+pub record RecordsInstalled (l l' : List ℕ) (n : numbers.Account) (h list list' : List ℕ) (p : ℕ) (verdicts : List ℕ) : Type 0 where
+  pub records : WithRecords l l' (recordsOf l')
+  pub installed : Installed (n .fragments) (n .closed) (n .held) h (recordsOf l) (recordsOf l') list list' p verdicts
+
+-- the lot l' is l with what the verdicts leave of the first n places of h, so many
+pub record PlacesKept (l l' h verdicts : List ℕ) (n left : ℕ) : Type 0 where
   pub places : WithPlaces l l' (placesOf l')
-  pub closed : sections.Closed (n .fragments) (n .closed) (n .held) (placesOf l) (placesOf l') r r' list list' p left
+  pub fewer : left ≤ n
+  pub stay : survivors.Left (placesOf l') left verdicts h n
 
 -- the numbers of an account after a close that leaves so many entries
 abbrev pub closedNumbers : numbers.Account → ℕ → numbers.Account

@@ -1,14 +1,13 @@
 // Closing an epoch in one lot: one look at the lot, then the judgement, which only reads, then the close, section by section.
-// It stands on `lot` and `writes`, and on `epoch` for the close over sections.
+// It stands on `lot` and `writes`, on `epoch` for what is installed, and on `survivors` for what stays held.
 ghost use mathlib.Core.Path.{_≡_};
-ghost use Prim.Native.Nat.{_<_};
+ghost use Prim.Native.Nat.{_≤_, _<_};
 ghost use lib.ListN.{length};
-ghost use Rattle.lot.specs.Layout.{SIZE, placesOf};
-ghost use Rattle.writes.specs.Sections.{WithRecords};
+ghost use Rattle.lot.specs.Layout.{SIZE, recordsOf};
 ghost use Rattle.lot.specs.Look.{Looked};
 ghost use Rattle.epoch.specs.Closed.{Closable};
-ghost use Rattle.closing.specs.Closing.{MarksJudged, Judged, Due, PlacesClosed, closedNumbers, CloseDone, LotClosed};
-use epoch::Settled;
+ghost use Rattle.closing.specs.Closing.{MarksJudged, Judged, Due, RecordsInstalled, PlacesKept, closedNumbers, CloseDone, LotClosed};
+use epoch::Applied;
 use lot::Account;
 use lot::Look;
 use model::Closed;
@@ -46,26 +45,27 @@ pub fn judge_lot(lot: &[u8], account: Account, room: usize) -> Outcome
 
 // ---- the close
 
-// Closes over the places of the lot, with records that are a copy.
-fn close_places(lot: &mut [u8], records: &mut [u8], list: &mut [u32], account: Account) -> Settled
-    requires { ⌜ (length (now lot) ≡ SIZE) × Closable (placesOf (now lot)) (now records) (now list) (account .fragments) (account .held) (account .closed) ⌝ }
-    ensures { λ r. ⌜ PlacesClosed (now (lot .entry)) (now (lot .exit)) account (now (records .entry)) (now (records .exit)) (now (list .entry)) (now (list .exit)) (r .pieces) (r .count) ⌝ }
+// Installs and lists the pieces by a snapshot of the places, in the records of the lot.
+fn install_in(lot: &mut [u8], list: &mut [u32], old: &[u8], account: Account) -> Applied
+    requires { ⌜ (length (now lot) ≡ SIZE) × Closable (now old) (recordsOf (now lot)) (now list) (account .fragments) (account .held) (account .closed) ⌝ }
+    ensures { λ r. ⌜ RecordsInstalled (now (lot .entry)) (now (lot .exit)) account (now (old .entry)) (now (list .entry)) (now (list .exit)) (r .pieces) (r .numbers) ⌝ }
 {
-    epoch::close_sections(
-        &mut lot[lot::PLACES..lot::RECORDS],
-        records,
+    epoch::install_pieces(
+        &mut lot[lot::RECORDS..lot::SIZE],
         list,
+        old,
         account.fragments,
-        account.held,
+        account.held as usize,
         account.closed,
     )
 }
 
-fn set_records(lot: &mut [u8], records: &[u8])
-    requires { ⌜ (length (now lot) ≡ SIZE) × (length (now records) ≡ 5120) ⌝ }
-    ensures { λ _. ⌜ WithRecords (now (lot .entry)) (now (lot .exit)) (now (records .entry)) ⌝ }
+// Writes what the verdicts leave of the snapshot into the places of the lot, and answers how many they are.
+fn keep_in(lot: &mut [u8], old: &[u8], numbers: &[u8; 256], n: usize) -> usize
+    requires { ⌜ (length (now lot) ≡ SIZE) × (length (now old) ≡ 5120) × (n ≤ 256) ⌝ }
+    ensures { λ r. ⌜ PlacesKept (now (lot .entry)) (now (lot .exit)) (now (old .entry)) (now (numbers .entry)) n r ⌝ }
 {
-    bytes::copy(records, &mut lot[lot::RECORDS..lot::SIZE]);
+    survivors::keep_survivors(&mut lot[lot::PLACES..lot::RECORDS], old, numbers, n)
 }
 
 // The numbers of an account after a close that leaves so many entries.
@@ -87,11 +87,12 @@ pub fn close_held(lot: &mut [u8], account: Account, list: &mut [u32]) -> u32
     requires { ⌜ Due (now lot) account (now list) ⌝ }
     ensures { λ r. ⌜ CloseDone (now (lot .entry)) (now (lot .exit)) (now (list .entry)) (now (list .exit)) r ⌝ }
 {
-    let mut records = epoch::snapshot(lot::records_of(lot));
-    let s = close_places(lot, &mut records, list, account);
-    set_records(lot, &records);
-    writes::set_head(lot, closed_numbers(account, s.count));
-    s.pieces
+    let old = epoch::snapshot(lot::places_of(lot));
+    let applied = install_in(lot, list, &old, account);
+    let numbers = applied.numbers;
+    let left = keep_in(lot, &old, &numbers, account.held as usize);
+    writes::set_head(lot, closed_numbers(account, left as u16));
+    applied.pieces
 }
 
 // ---- the answer

@@ -12,7 +12,7 @@ use Rattle.model.specs.declared.Counters.{Counters}
 use Rattle.model.proofs.ByStream.{Sorted}
 use Rattle.model.specs.Section.{plain, sectionFits, items}
 use Rattle.lot.specs.View.{recordAt}
-use Rattle.verdicts.specs.Verdicts.{heldIn}
+use Rattle.verdicts.specs.Verdicts.{heldIn, Verdicts}
 
 -- ---- what is closed: the n places of h, of f streams, after the closed epoch c
 
@@ -47,13 +47,17 @@ module _ (h : List ℕ) (n e : ℕ) where
   unfoldable pub listedIn : ℕ → List Piece
   listedIn f = upward f 0 (λ i. map (λ t. record { fragment = i; transaction = t }) (piecesIn i))
 
--- ---- what the close leaves: places h', records r', list l'; it answers p pieces and n' places
+-- ---- what installing leaves: records r' and list l'; it answers p pieces, and the number of each verdict
 
-pub record Closed (f c n : ℕ) (h h' r r' l l' : List ℕ) (p n' : ℕ) : Type 0 where
+pub record Installed (f c n : ℕ) (h r r' l l' : List ℕ) (p : ℕ) (numbers : List ℕ) : Type 0 where
   pub counted : p ≡ length (listedIn h n (suc c) f)
   pub listed : l' ≡ pairs (listedIn h n (suc c) f) ++ drop (p * 2) l
+  pub records : (i k : ℕ) → i < f → k < 128 → recordAt r' i k ≡ apply (piecesIn h n (suc c) i) k (lookedIn h n (suc c) i) (recordAt r i k)
+  pub verdicts : Verdicts numbers h n (suc c)
+
+-- ---- what then stays held: the n' places of h'
+
+pub record StaysHeld (f c n : ℕ) (h h' : List ℕ) (n' : ℕ) : Type 0 where
   pub held : (i : ℕ) → mine i (items n' h') ≡ survivors (suc c) (verdictIn h n (suc c) i) (mine i (items n h))
   pub sorted : Sorted f (items n' h')
   pub plain-places : plain n' h' ≡ true
-  pub fewer : n' ≤ n
-  pub records : (i k : ℕ) → i < f → k < 128 → recordAt r' i k ≡ apply (piecesIn h n (suc c) i) k (lookedIn h n (suc c) i) (recordAt r i k)

@@ -1,12 +1,12 @@
-// Closing an epoch over the sections of a lot: the marks that are missing, and the sections after the close.
-// It stands on `verdicts`, `install` and `survivors`, and takes its snapshot with the kit's `bytes`.
+// Closing an epoch over the sections of a lot: the marks that are missing, and the pieces installed.
+// It stands on `verdicts` and `install`, and on `survivors` for what stays held; it takes its snapshot with the kit's `bytes`.
 ghost use mathlib.Core.Path.{_≡_};
 ghost use Prim.Native.Nat.{_+_, _*_, _≤_, _<_};
 ghost use lib.ListN.{length};
 ghost use lib.Count.{ones};
 ghost use Rattle.model.specs.Lists.{bitsOf};
 ghost use Rattle.epoch.specs.Missing.{missingIn, MissingMarks};
-ghost use Rattle.epoch.specs.Closed.{Closable, Closed};
+ghost use Rattle.epoch.specs.Closed.{Closable, Installed};
 
 // Stream i has not taken the mark of the epoch after the closed one.
 fn is_missing(streams: &[u8], closed: u32, i: usize) -> bool
@@ -62,47 +62,29 @@ pub fn snapshot(section: &[u8]) -> [u8; 5120]
     old
 }
 
-// How many pieces a close installed, and how many entries are held after it.
-pub struct Settled {
+// How many pieces were installed, and the verdict on each place.
+pub struct Applied {
     pub pieces: u32,
-    pub count: u16,
+    pub numbers: [u8; 256],
 }
 
-// Verdicts, installing and listing go by the snapshot, and then its survivors are written.
-fn settle(
-    places: &mut [u8],
+// Installs and lists the pieces of the epoch after the closed one, by the places as they stood when the call began.
+pub fn install_pieces(
     records: &mut [u8],
     list: &mut [u32],
     old: &[u8],
     fragments: u8,
     n: usize,
     closed: u32,
-) -> Settled
-    requires { ⌜ (length (now places) ≡ 5120) × Closable (now old) (now records) (now list) fragments n closed ⌝ }
-    ensures { λ r. ⌜ Closed fragments closed n (now (old .entry)) (now (places .exit)) (now (records .entry)) (now (records .exit)) (now (list .entry)) (now (list .exit)) (r .pieces) (r .count) ⌝ }
+) -> Applied
+    requires { ⌜ Closable (now old) (now records) (now list) fragments n closed ⌝ }
+    ensures { λ r. ⌜ Installed fragments closed n (now (old .entry)) (now (records .entry)) (now (records .exit)) (now (list .entry)) (now (list .exit)) (r .pieces) (r .numbers) ⌝ }
 {
     let last = lookback::lasts(old, n);
     let numbers = verdicts::verdicts(old, &last, n, closed + 1);
     let pieces = install::install_all(records, list, old, &last, &numbers, n, fragments);
-    let left = survivors::keep_survivors(places, old, &numbers, n);
-    Settled {
+    Applied {
         pieces: pieces as u32,
-        count: left as u16,
+        numbers: numbers,
     }
-}
-
-// Closes the epoch after the closed one, by the places as they stand when the call begins.
-pub fn close_sections(
-    places: &mut [u8],
-    records: &mut [u8],
-    list: &mut [u32],
-    fragments: u8,
-    count: u16,
-    closed: u32,
-) -> Settled
-    requires { ⌜ Closable (now places) (now records) (now list) fragments count closed ⌝ }
-    ensures { λ r. ⌜ Closed fragments closed count (now (places .entry)) (now (places .exit)) (now (records .entry)) (now (records .exit)) (now (list .entry)) (now (list .exit)) (r .pieces) (r .count) ⌝ }
-{
-    let old = snapshot(places);
-    settle(places, records, list, &old, fragments, lookback::wide16(count), closed)
 }

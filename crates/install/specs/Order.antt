@@ -22,6 +22,12 @@ pub record First (h : List ℕ) (i first : ℕ) : Type 0 where
   pub own : ownOf h i first ≡ true
   pub none-before : lastWith (ownOf h i) first ≡ 0
 
+-- the first m of n places are those of the streams below s
+pub record StreamsBelow (h : List ℕ) (n s m : ℕ) : Type 0 where
+  pub low : m ≤ n
+  pub these : (i : ℕ) → i < m → itemAt h i .stream < s
+  pub rest : (i : ℕ) → m ≤ i → i < n → s ≤ itemAt h i .stream
+
 -- what installing asks for: records, list, held section and the table of its n places
 pub record Sections (records list h last : List ℕ) (n : ℕ) : Type 0 where
   pub size : length records ≡ 5120

@@ -7,7 +7,7 @@ ghost use Rattle.model.specs.Section.{itemAt};
 ghost use Rattle.lookback.specs.Last.{Lasts};
 ghost use Rattle.verdicts.specs.Orderly.{Orderly};
 ghost use Rattle.install.specs.Writes.{Changed, writeOf, writesBefore};
-ghost use Rattle.install.specs.Order.{Nexts, First, Sections, Tables};
+ghost use Rattle.install.specs.Order.{Nexts, First, StreamsBelow, Sections, Tables};
 ghost use Rattle.install.specs.Pieces.{isPiece, pieceAt, piecesTill, piecesOf, Installed, countOf, InstalledAll};
 use model::Entry;
 
@@ -79,6 +79,23 @@ fn write_transaction(
     }
 }
 
+// ---- the places of a stream
+
+// Where they end, those of the streams before it being the first `start`.
+fn stream_end(held: &[u8], n: usize, fragment: u8, start: usize) -> usize
+    requires { ⌜ (n * 20 ≤ length (now held)) × Orderly (now held) n × StreamsBelow (now held) n fragment start ⌝ }
+    ensures { λ r. ⌜ StreamsBelow (now (held .entry)) n (fragment + 1) r ⌝ }
+{
+    let mut end = start;
+    while end < n {
+        if lookback::stream_at(held, end) != fragment {
+            return end;
+        }
+        end += 1;
+    }
+    end
+}
+
 // ---- pieces
 
 // Place i is a piece of the stream: a CC or CP that installs, or (flagging) a P that is flagged.
@@ -130,7 +147,7 @@ fn install_at(
     pieces + 1
 }
 
-// Installs the pieces of a stream of one sort, by position.
+// Installs the pieces of a stream of one sort, by position: its places are those from `start` to `end`.
 fn install_sort(
     records: &mut [u8],
     list: &mut [u32],
@@ -139,16 +156,18 @@ fn install_sort(
     next: &[u16; 257],
     numbers: &[u8; 256],
     n: usize,
+    start: usize,
+    end: usize,
     fragment: u8,
     flagging: bool,
     pieces: usize,
 ) -> usize
-    requires { ⌜ Tables (now records) (now list) (now held) (now last) (now next) n × (pieces + length (piecesTill (now numbers) (now held) fragment flagging n) ≤ 256) ⌝ }
+    requires { ⌜ Tables (now records) (now list) (now held) (now last) (now next) n × (pieces + length (piecesTill (now numbers) (now held) fragment flagging n) ≤ 256) × StreamsBelow (now held) n fragment start × StreamsBelow (now held) n (fragment + 1) end ⌝ }
     ensures { λ q. ⌜ Installed (now (held .entry)) (piecesTill (now (numbers .entry)) (now (held .entry)) fragment flagging n) fragment (now (list .entry)) (now (list .exit)) (now (records .entry)) (now (records .exit)) pieces q ⌝ }
 {
     let mut count = pieces;
-    let mut i: usize = 0;
-    while i < n {
+    let mut i = start;
+    while i < end {
         count = install_at(records, list, held, last, next, numbers, n, fragment, flagging, count, i);
         i += 1;
     }
@@ -164,14 +183,16 @@ fn install_stream(
     next: &[u16; 257],
     numbers: &[u8; 256],
     n: usize,
+    start: usize,
+    end: usize,
     fragment: u8,
     pieces: usize,
 ) -> usize
-    requires { ⌜ Tables (now records) (now list) (now held) (now last) (now next) n × (pieces + length (piecesOf (now numbers) (now held) n fragment) ≤ 256) ⌝ }
+    requires { ⌜ Tables (now records) (now list) (now held) (now last) (now next) n × (pieces + length (piecesOf (now numbers) (now held) n fragment) ≤ 256) × StreamsBelow (now held) n fragment start × StreamsBelow (now held) n (fragment + 1) end ⌝ }
     ensures { λ q. ⌜ Installed (now (held .entry)) (piecesOf (now (numbers .entry)) (now (held .entry)) n fragment) fragment (now (list .entry)) (now (list .exit)) (now (records .entry)) (now (records .exit)) pieces q ⌝ }
 {
-    let committed = install_sort(records, list, held, last, next, numbers, n, fragment, false, pieces);
-    install_sort(records, list, held, last, next, numbers, n, fragment, true, committed)
+    let committed = install_sort(records, list, held, last, next, numbers, n, start, end, fragment, false, pieces);
+    install_sort(records, list, held, last, next, numbers, n, start, end, fragment, true, committed)
 }
 
 // Installs the pieces of all streams, stream 0 first, and answers how many there are.
@@ -189,9 +210,12 @@ pub fn install_all(
 {
     let next = nexts(held, last, n);
     let mut count: usize = 0;
+    let mut start: usize = 0;
     let mut fragment: u8 = 0;
     while fragment < fragments {
-        count = install_stream(records, list, held, last, &next, numbers, n, fragment, count);
+        let end = stream_end(held, n, fragment, start);
+        count = install_stream(records, list, held, last, &next, numbers, n, start, end, fragment, count);
+        start = end;
         fragment += 1;
     }
     count

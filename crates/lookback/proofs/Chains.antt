@@ -13,7 +13,7 @@ use lib.Seq.{getD-set-same, getD-set-other}
 use Rattle.model.specs.Lists.{if_then_else_}
 use Rattle.model.proofs.Tests.{and-l, and-r}
 use Rattle.model.specs.Section.{itemAt}
-use Rattle.lookback.specs.Last.{lastWith, isOf, Lasts, bucketOf, bucketAt, inBucket, Chained, Ready}
+use Rattle.lookback.specs.Last.{lastWith, isOf, Lasts, bucketOf, bucketAt, inBucket, Chained, Indexed, Ready}
 
 -- ---- the last number that passes
 
@@ -124,68 +124,85 @@ module _ (h : List ℕ) (s t start m : ℕ) (w : Walk h s t start m) where
     unfolding Chained
     walk-less = let low : m ≤ start = w .low in omega (arith, c (m - 1) (omega arith), last-le (inBucket h (bucketAt h (m - 1))) (m - 1))
 
--- ---- the table
+-- ---- a place looked for from the head of its bucket
 
--- what holds after the first n places: `head` has the last of them of each bucket
-pub record Built (h head next last : List ℕ) (n : ℕ) : Type 0 where
-  pub size-head : length head ≡ 256
-  pub size-next : 256 ≤ length next
-  pub size-last : 256 ≤ length last
-  pub heads : (b : ℕ) → b < 256 → getD head b 0 ≡ lastWith (inBucket h b) n
-  pub chained : Chained next h n
-  pub lasts : Lasts last h n
+module _ (h head next : List ℕ) (n s t b : ℕ) (index : Indexed h head next n) (eb : b ≡ bucketOf s t) (small : b < 256) where
+  start-is : getD head b 0 ≡ lastWith (inBucket h (bucketOf s t)) n
+  start-is = index .heads b small ∙ ap (λ (x : ℕ). lastWith (inBucket h x) n) eb
 
-pub built-none : (h next last : List ℕ) → 256 ≤ length next → 256 ≤ length last → Built h (replicate 256 0) next last 0
-unfolding Chained Lasts lastWith
-built-none h next last n m =
-    record { size-head = refl; size-next = n; size-last = m; heads = λ b l. getD-replicate 256 b 0 0 l; chained = below-none _; lasts = below-none _ }
-
-module _ (h head next last : List ℕ) (i s t b : ℕ) (built : Built h head next last i) (eb : b ≡ bucketOf s t) (small : b < 256) where
-  start-is : getD head b 0 ≡ lastWith (inBucket h (bucketOf s t)) i
-  start-is = built .heads b small ∙ ap (λ (x : ℕ). lastWith (inBucket h x) i) eb
-
-  pub ready : i ≤ 256 → i * 20 ≤ length h → Ready h next s t (getD head b 0)
+  pub ready : n ≤ 256 → n * 20 ≤ length h → Ready h next s t (getD head b 0)
   unfolding Chained
   ready l r =
       let q : ℕ → Bool = inBucket h (bucketOf s t) in
-      let le : lastWith q i ≤ i = last-le q i in
+      let le : lastWith q n ≤ n = last-le q n in
       rw start-is
-      (record { low = omega arith; fits = omega arith; chained = λ k x. built .chained k (omega arith); own = last-jump q q (λ k x. x) i })
+      (record { low = omega arith; fits = omega arith; chained = λ k x. index .chained k (omega arith); own = last-jump q q (λ k x. x) n })
 
-  found : lastWith (isOf h s t) (getD head b 0) ≡ lastWith (isOf h s t) i
-  found = rw start-is (sym (last-jump (isOf h s t) (inBucket h (bucketOf s t)) (key-bucket h s t) i))
+  pub found : lastWith (isOf h s t) (getD head b 0) ≡ lastWith (isOf h s t) n
+  found = rw start-is (sym (last-jump (isOf h s t) (inBucket h (bucketOf s t)) (key-bucket h s t) n))
 
-  module _ (es : s ≡ itemAt h i .stream) (et : t ≡ itemAt h i .entry .transaction) where
-    own-bucket : bucketAt h i ≡ b
-    own-bucket = rw (← es, ← et) (sym eb)
+-- ---- the tables, place by place
 
-    -- the new head of the place's bucket, and the old ones of the others
-    new-head : (x : ℕ) → x < 256 → (z : Bool) → eqb b x ≡ z → getD (set head b (i + 1)) x 0 ≡ lastWith (inBucket h x) (i + 1)
-    unfolding lastWith inBucket
-    new-head x y true e =
-        let e' : b ≡ x = eqb-true b x e in
-        let sh = built .size-head in
-        rw (← e', getD-set-same head b (i + 1) 0 (omega arith), add-one i, own-bucket, eq-eqb b b refl)
-    new-head x y false e =
-        let n : x ≡ b → ⊥ = λ z. eqb-false b x e (sym z) in
-        rw (getD-set-other head b x (i + 1) 0 n, add-one i, own-bucket, e) (built .heads x y)
+-- what holds after the first n places
+pub record Chaining (h head next : List ℕ) (n : ℕ) : Type 0 where
+  pub size-head : length head ≡ 256
+  pub size-next : 256 ≤ length next
+  pub index : Indexed h head next n
 
-    pub built-more : (v : ℕ) → i < 256 → v ≡ lastWith (isOf h s t) (getD head b 0) → Built h (set head b (i + 1)) (set next i (getD head b 0)) (set last i v) (i + 1)
-    unfolding Chained Lasts
-    built-more v l ev =
-        let sn = built .size-next in
-        let sl = built .size-last in
-        record {
-          size-head = simp length-set (built .size-head);
-          size-next = simp length-set sn;
-          size-last = simp length-set sl;
-          heads = λ x y. new-head x y (eqb b x) refl;
+-- and the table of the last places before each
+pub record Built (h head next last : List ℕ) (n : ℕ) : Type 0 where
+  pub chains : Chaining h head next n
+  pub size-last : 256 ≤ length last
+  pub lasts : Lasts last h n
+
+pub chaining-none : (h next : List ℕ) → 256 ≤ length next → Chaining h (replicate 256 0) next 0
+unfolding Chained lastWith
+chaining-none h next n = record { size-head = refl; size-next = n; index = record { heads = λ b l. getD-replicate 256 b 0 0 l; chained = below-none _ } }
+
+pub built-none : (h next last : List ℕ) → 256 ≤ length next → 256 ≤ length last → Built h (replicate 256 0) next last 0
+unfolding Lasts
+built-none h next last n m = record { chains = chaining-none h next n; size-last = m; lasts = below-none _ }
+
+module _ (h head next : List ℕ) (i s t b : ℕ) (eb : b ≡ bucketOf s t) (small : b < 256) (es : s ≡ itemAt h i .stream) (et : t ≡ itemAt h i .entry .transaction) where
+  own-bucket : bucketAt h i ≡ b
+  own-bucket = rw (← es, ← et) (sym eb)
+
+  -- the new head of the place's bucket, and the old ones of the others
+  new-head : Chaining h head next i → (x : ℕ) → x < 256 → (z : Bool) → eqb b x ≡ z → getD (set head b (i + 1)) x 0 ≡ lastWith (inBucket h x) (i + 1)
+  unfolding lastWith inBucket
+  new-head w x y true e =
+      let e' : b ≡ x = eqb-true b x e in
+      let sh = w .size-head in
+      rw (← e', getD-set-same head b (i + 1) 0 (omega arith), add-one i, own-bucket, eq-eqb b b refl)
+  new-head w x y false e =
+      let n : x ≡ b → ⊥ = λ z. eqb-false b x e (sym z) in
+      rw (getD-set-other head b x (i + 1) 0 n, add-one i, own-bucket, e) (w .index .heads x y)
+
+  pub chaining-more : i < 256 → Chaining h head next i → Chaining h (set head b (i + 1)) (set next i (getD head b 0)) (i + 1)
+  unfolding Chained
+  chaining-more l w =
+      let sn = w .size-next in
+      record {
+        size-head = simp length-set (w .size-head);
+        size-next = simp length-set sn;
+        index = record {
+          heads = λ x y. new-head w x y (eqb b x) refl;
           chained =
               below-more _ i
-              (λ k q. let n : k ≡ i → ⊥ = λ z. omega arith in getD-set-other next i k _ 0 n ∙ built .chained k q)
-              (getD-set-same next i _ 0 (omega arith) ∙ start-is ∙ rw (es, et));
-          lasts =
-              below-more _ i
-              (λ k q. let n : k ≡ i → ⊥ = λ z. omega arith in getD-set-other last i k v 0 n ∙ built .lasts k q)
-              (getD-set-same last i v 0 (omega arith) ∙ ev ∙ found ∙ rw (es, et));
-        }
+              (λ k q. let n : k ≡ i → ⊥ = λ z. omega arith in getD-set-other next i k _ 0 n ∙ w .index .chained k q)
+              (getD-set-same next i _ 0 (omega arith) ∙ start-is h head next i s t b (w .index) eb small ∙ rw (es, et));
+        };
+      }
+
+  pub built-more : (last : List ℕ) (v : ℕ) → i < 256 → v ≡ lastWith (isOf h s t) (getD head b 0) → Built h head next last i → Built h (set head b (i + 1)) (set next i (getD head b 0)) (set last i v) (i + 1)
+  unfolding Lasts
+  built-more last v l ev w =
+      let sl = w .size-last in
+      record {
+        chains = chaining-more l (w .chains);
+        size-last = simp length-set sl;
+        lasts =
+            below-more _ i
+            (λ k q. let n : k ≡ i → ⊥ = λ z. omega arith in getD-set-other last i k v 0 n ∙ w .lasts k q)
+            (getD-set-same last i v 0 (omega arith) ∙ ev ∙ found h head next i s t b (w .chains .index) eb small ∙ rw (es, et));
+      }

@@ -40,6 +40,11 @@ inBucket h b i = eqb (bucketAt h i) b
 unfoldable pub Chained : List ℕ → List ℕ → ℕ → Type 0
 Chained next h n = (i : ℕ) → i < n → getD next i 0 ≡ lastWith (inBucket h (bucketAt h i)) i
 
+-- the chains of the first n places: `head` holds the last place of each bucket
+pub record Indexed (h head next : List ℕ) (n : ℕ) : Type 0 where
+  pub heads : (b : ℕ) → b < 256 → getD head b 0 ≡ lastWith (inBucket h b) n
+  pub chained : Chained next h n
+
 -- what a walk from `start` asks for
 pub record Ready (h next : List ℕ) (s t start : ℕ) : Type 0 where
   pub low : start ≤ 256

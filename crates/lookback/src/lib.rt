@@ -7,7 +7,7 @@ ghost use Rattle.model.specs.Decoding.{mine};
 ghost use Rattle.model.specs.Stages.{stage};
 ghost use Rattle.model.specs.Section.{itemAt, items};
 ghost use Rattle.lookback.specs.Places.{stageAt};
-ghost use Rattle.lookback.specs.Last.{lastWith, isOf, Lasts, bucketOf, Ready};
+ghost use Rattle.lookback.specs.Last.{lastWith, isOf, Lasts, bucketOf, Indexed, Ready};
 use model::Stage;
 
 // Three fields of a place.
@@ -135,4 +135,43 @@ pub fn lasts(held: &[u8], n: usize) -> [u16; 256]
         i += 1;
     }
     last
+}
+
+// The chains alone, for places that are looked for from the end: the last place of each bucket, and for each place the one
+// before it in its bucket.
+pub struct Index {
+    pub head: [u16; 256],
+    pub next: [u16; 256],
+}
+
+pub fn index_places(held: &[u8], n: usize) -> Index
+    requires { ⌜ (n ≤ 256) × (n * 20 ≤ length (now held)) ⌝ }
+    ensures { λ r. ⌜ Indexed (now (held .entry)) (r .head) (r .next) n ⌝ }
+{
+    let mut head = [0u16; 256];
+    let mut next = [0u16; 256];
+    let mut i: usize = 0;
+    while i < n {
+        let b = bucket(stream_at(held, i), transaction_at(held, i));
+        next[i] = head[b];
+        head[b] = (i + 1) as u16;
+        i += 1;
+    }
+    Index { head: head, next: next }
+}
+
+// As `last_with`, along the chains.
+pub fn last_indexed(
+    held: &[u8],
+    head: &[u16; 256],
+    next: &[u16; 256],
+    n: usize,
+    fragment: u8,
+    transaction: u32,
+) -> u16
+    requires { ⌜ (n ≤ 256) × (n * 20 ≤ length (now held)) × Indexed (now held) (now head) (now next) n ⌝ }
+    ensures { λ r. ⌜ r ≡ lastWith (isOf (now (held .entry)) fragment transaction) n ⌝ }
+{
+    let b = bucket(fragment, transaction);
+    last_chained(held, next, head[b], fragment, transaction)
 }

@@ -1,22 +1,23 @@
 -- The judgement from a look at a lot: a law for each of its answers. Assumes nothing.
-use Prim.Native.Nat.{ℕ, _+_, _*_, _≤_}
+use Prim.Native.Nat.{ℕ, _+_, _*_, _≤_, _<_}
 use mathlib.Core.Path.{_≡_, _∙_}
 use mathlib.Core.Bool.{true, false}
 use mathlib.Core.List.{List}
 use native.Mathlib.Omega.{arith}
 use lib.ListN.{length, drop}
-use borrow.Author.Tests.{eq-eqb, ne-eqb}
-use Rattle.model.specs.Entry.{LENGTH, entryOf, fits, inside}
-use Rattle.model.specs.Account.{Held}
-use Rattle.model.specs.Stages.{stage}
+use borrow.Author.Tests.{eq-eqb, ne-eqb, le-leb, lt-leb}
+use Rattle.model.specs.Entry.{LENGTH, MARK, entryOf, fits, inside}
+use Rattle.model.specs.Account.{Held, MOST-HELD}
+use Rattle.model.specs.Stages.{stage, takes}
 use Rattle.model.specs.Taking.{judgeEntry, judge}
 use Rattle.model.specs.Decoding.{countersOf, mine}
 use Rattle.model.specs.Section.{items}
 use Rattle.model.specs.declared.Entry.{Entry}
+use Rattle.model.specs.declared.Stage.{Stage}
 use Rattle.model.specs.declared.Counters.{Counters}
 use Rattle.model.specs.declared.Outcome.{Outcome}
-use Rattle.model.specs.declared.Outcome.the-variants.{Refused}
-use Rattle.model.specs.declared.Refusal.the-variants.{WrongLength, Unfit, OutsideAccount, Seen, Gap}
+use Rattle.model.specs.declared.Outcome.the-variants.{Done, Refused}
+use Rattle.model.specs.declared.Refusal.the-variants.{WrongLength, Unfit, OutsideAccount, Seen, Gap, OutOfTurn, Full}
 use Rattle.model.proofs.Judged.{own-fragment}
 use Rattle.entry.specs.Sequence.{sequenceOf}
 use Rattle.entry.specs.declared.Sequence.the-variants as sequence
@@ -27,6 +28,22 @@ use Rattle.lot.proofs.Lengths.{length-streams, length-places}
 use Rattle.lot.specs.Look.{Looked}
 use Rattle.lot.proofs.Looked.{looked-held, known}
 use Rattle.taking.specs.Delivering.{judgeDue, judgeInside, EntryJudged, Judged}
+
+-- ---- 10 and 11, of an entry that is no mark
+
+module _ (o n : ℕ) (s : Stage) (e : Entry) (no-mark : e .kind ≡ MARK → ⊥) where
+  pub out-of-turn : takes (e .kind) s ≡ false → Refused OutOfTurn ≡ judgeDue o s n e
+  unfolding judgeDue
+  out-of-turn t = rw (ne-eqb (e .kind) MARK no-mark, t)
+
+  module _ (t : takes (e .kind) s ≡ true) where
+    pub taken : n < MOST-HELD → Done ≡ judgeDue o s n e
+    unfolding judgeDue
+    taken l = rw (ne-eqb (e .kind) MARK no-mark, t, lt-leb MOST-HELD n l)
+
+    pub full : MOST-HELD ≤ n → Refused Full ≡ judgeDue o s n e
+    unfolding judgeDue
+    full l = rw (ne-eqb (e .kind) MARK no-mark, t, le-leb MOST-HELD n l)
 
 -- ---- 7 and 8
 

@@ -171,7 +171,7 @@ unfolding Lasts
 lasts-low last h n i l u = omega (arith, l i u, last-le (ownOf h n n i) i)
 
 -- what `number_of` finds in the table for a place that is looked at
-pub known-decider : {h last decider numbers : List ℕ} {n e i : ℕ} → Known h last decider numbers n e i → (m : ℕ) → m ≡ getD decider (i + 1) 0 → itemAt h i .entry .epoch ≤ e
+pub known-decider : {h last decider head next numbers : List ℕ} {n e i : ℕ} → Known h last decider head next numbers n e i → (m : ℕ) → m ≡ getD decider (i + 1) 0 → itemAt h i .entry .epoch ≤ e
     → (deciderAt h n e i ≡ m) × (suc i ≤ m) × (m ≤ n)
 unfolding Deciders
 known-decider {h} {decider = decider} {n = n} {e = e} {i = i} k m q l =

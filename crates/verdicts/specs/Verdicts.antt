@@ -11,7 +11,7 @@ use Rattle.model.specs.Account.{Held, coordinator}
 use Rattle.model.specs.Closing.{upto, Verdict, free, install, flag, stay, verdict, committed}
 use Rattle.model.specs.Decoding.{mine}
 use Rattle.model.specs.Section.{itemAt, items}
-use Rattle.lookback.specs.Last.{lastWith, isOf, lastBefore, Lasts}
+use Rattle.lookback.specs.Last.{lastWith, isOf, lastBefore, Lasts, Indexed}
 use Rattle.verdicts.specs.Orderly.{Orderly}
 
 -- ---- the verdict on the transaction of place i, by the model; n places, closing epoch e
@@ -58,13 +58,14 @@ unfoldable pub deciderOf : List ℕ → ℕ → ℕ → ℕ → ℕ
 deciderOf h e found m = if eqb found 0 then (if leb (itemAt h (m - 1) .entry .epoch) e then m else 0) else found
 
 -- what the verdict of place i asks for: those after it are known
-pub record Known (h last decider numbers : List ℕ) (n e i : ℕ) : Type 0 where
+pub record Known (h last decider head next numbers : List ℕ) (n e i : ℕ) : Type 0 where
   pub within : i < n
   pub most : n ≤ 256
   pub room : n * 20 ≤ length h
   pub orderly : Orderly h n
   pub lasts : Lasts last h n
   pub deciders : Deciders decider h n e
+  pub index : Indexed h head next n
   pub known : (j : ℕ) → i < j → j < n → getD numbers j 0 ≡ numberAt h n e j
 
 -- stream s has CC(t), by its last place

@@ -4,7 +4,7 @@ ghost use mathlib.Core.Path.{_≡_};
 ghost use Prim.Native.Nat.{_+_, _*_, _≤_, _<_};
 ghost use lib.ListN.{length};
 ghost use Rattle.model.specs.Section.{itemAt};
-ghost use Rattle.lookback.specs.Last.{lastBefore, Lasts};
+ghost use Rattle.lookback.specs.Last.{lastBefore, Lasts, Indexed};
 ghost use Rattle.verdicts.specs.Orderly.{Orderly};
 ghost use Rattle.verdicts.specs.Verdicts.{numberOf, numberAt, Verdicts, Deciders, deciderOf, Known, commitsAt, decides, flaggedAt, toFlag, decidedBy};
 use model::Entry;
@@ -48,16 +48,24 @@ fn commits_at(held: &[u8], epoch: u32, last: u16) -> bool
 }
 
 // A stream has the transaction's CC, in an epoch up to this one.
-fn decides(held: &[u8], n: usize, epoch: u32, fragment: u8, transaction: u32) -> bool
-    requires { ⌜ (n ≤ 256) × (n * 20 ≤ length (now held)) ⌝ }
+fn decides(
+    held: &[u8],
+    head: &[u16; 256],
+    next: &[u16; 256],
+    n: usize,
+    epoch: u32,
+    fragment: u8,
+    transaction: u32,
+) -> bool
+    requires { ⌜ (n ≤ 256) × (n * 20 ≤ length (now held)) × Indexed (now held) (now head) (now next) n ⌝ }
     ensures { λ r. ⌜ r ≡ decides (now (held .entry)) n epoch fragment transaction ⌝ }
 {
-    commits_at(held, epoch, lookback::last_with(held, fragment, transaction, n))
+    commits_at(held, epoch, lookback::last_indexed(held, head, next, n, fragment, transaction))
 }
 
 // Place i is a P that is to be flagged: it is not flagged yet, and its coordinator's stream has the CC.
-fn to_flag(held: &[u8], n: usize, epoch: u32, i: usize) -> bool
-    requires { ⌜ (n ≤ 256) × (n * 20 ≤ length (now held)) × (i < n) × Orderly (now held) n ⌝ }
+fn to_flag(held: &[u8], head: &[u16; 256], next: &[u16; 256], n: usize, epoch: u32, i: usize) -> bool
+    requires { ⌜ (n ≤ 256) × (n * 20 ≤ length (now held)) × (i < n) × Orderly (now held) n × Indexed (now held) (now head) (now next) n ⌝ }
     ensures { λ r. ⌜ r ≡ toFlag (decides (now (held .entry)) n epoch) (itemAt (now (held .entry)) i .entry) ⌝ }
 {
     if lookback::kind_at(held, i) != Entry::P {
@@ -67,12 +75,20 @@ fn to_flag(held: &[u8], n: usize, epoch: u32, i: usize) -> bool
         return false;
     }
     let coordinator = held::argument_at(held, i);
-    decides(held, n, epoch, coordinator as u8, lookback::transaction_at(held, i))
+    decides(held, head, next, n, epoch, coordinator as u8, lookback::transaction_at(held, i))
 }
 
 // The verdict that place i decides; `last` is what looking back from it finds.
-fn decided_by(held: &[u8], n: usize, epoch: u32, last: u16, i: usize) -> u8
-    requires { ⌜ (n ≤ 256) × (n * 20 ≤ length (now held)) × (i < n) × Orderly (now held) n × (last ≡ lastBefore (now held) i) ⌝ }
+fn decided_by(
+    held: &[u8],
+    head: &[u16; 256],
+    next: &[u16; 256],
+    n: usize,
+    epoch: u32,
+    last: u16,
+    i: usize,
+) -> u8
+    requires { ⌜ (n ≤ 256) × (n * 20 ≤ length (now held)) × (i < n) × Orderly (now held) n × (last ≡ lastBefore (now held) i) × Indexed (now held) (now head) (now next) n ⌝ }
     ensures { λ r. ⌜ r ≡ numberOf (decidedBy (decides (now (held .entry)) n epoch) (now (held .entry)) i) ⌝ }
 {
     let kind = lookback::kind_at(held, i);
@@ -85,7 +101,7 @@ fn decided_by(held: &[u8], n: usize, epoch: u32, last: u16, i: usize) -> u8
     if kind == Entry::CP {
         return if flagged_at(held, last) { FREE } else { INSTALL };
     }
-    if to_flag(held, n, epoch, i) { FLAG } else { STAY }
+    if to_flag(held, head, next, n, epoch, i) { FLAG } else { STAY }
 }
 
 // ---- the place that decides
@@ -125,12 +141,14 @@ fn number_of(
     held: &[u8],
     last: &[u16; 256],
     decider: &[u16; 257],
+    head: &[u16; 256],
+    next: &[u16; 256],
     numbers: &[u8; 256],
     n: usize,
     epoch: u32,
     i: usize,
 ) -> u8
-    requires { ⌜ Known (now held) (now last) (now decider) (now numbers) n epoch i ⌝ }
+    requires { ⌜ Known (now held) (now last) (now decider) (now head) (now next) (now numbers) n epoch i ⌝ }
     ensures { λ r. ⌜ r ≡ numberAt (now (held .entry)) n epoch i ⌝ }
 {
     if epoch < held::epoch_at(held, i) {
@@ -138,7 +156,7 @@ fn number_of(
     }
     let m = lookback::wide16(decider[i + 1]);
     if m == i + 1 {
-        return decided_by(held, n, epoch, last[i], i);
+        return decided_by(held, head, next, n, epoch, last[i], i);
     }
     numbers[m - 1]
 }
@@ -149,11 +167,14 @@ pub fn verdicts(held: &[u8], last: &[u16; 256], n: usize, epoch: u32) -> [u8; 25
     ensures { λ r. ⌜ Verdicts r (now (held .entry)) n epoch ⌝ }
 {
     let decider = deciders(held, last, n, epoch);
+    let index = lookback::index_places(held, n);
+    let head = index.head;
+    let next = index.next;
     let mut numbers = [LATER; 256];
     let mut m = n;
     while m != 0 {
         m -= 1;
-        numbers[m] = number_of(held, last, &decider, &numbers, n, epoch, m);
+        numbers[m] = number_of(held, last, &decider, &head, &next, &numbers, n, epoch, m);
     }
     numbers
 }

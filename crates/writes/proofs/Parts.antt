@@ -47,6 +47,9 @@ module _ (l q : List ℕ) (size : length l ≡ SIZE) where
       let f = after l q 16 64 (omega arith) w in
       record { head = before l q 16 64 (omega arith) w 16 0 (omega arith); streams = own l q 16 64 (omega arith) w; places = ap (take 5120) (f 80 (omega arith)); records = f 5200 (omega arith) }
 
+  pub streams-set : {s : List ℕ} → length q ≡ 64 → q ≡ s → WithStreams l (take 16 l ++ (q ++ drop 64 (drop 16 l))) s
+  streams-set w e = rw (← e) (streams-lent w)
+
   pub places-lent : length q ≡ 5120 → WithPlaces l (take 80 l ++ (q ++ drop 5120 (drop 80 l))) q
   places-lent w =
       let b = before l q 80 5120 (omega arith) w in

@@ -13,14 +13,14 @@ use Rattle.install.proofs.install_stream.Tie as tie
 install-sort-requires : tie.Need-install-sort-requires
 install-sort-requires c κs =     let a = c .before .before .before .before .before .args in
     let p = c .before .before .before .before .before .pre in
-    (p .0, omega (arith, p .1, length-append (piecesTill (a .numbers .now) (a .held .now) (a .fragment) false (a .n)) (piecesTill (a .numbers .now) (a .held .now) (a .fragment) true (a .n))))
+    (p .0, omega (arith, p .1, length-append (piecesTill (a .numbers .now) (a .held .now) (a .fragment) false (a .n)) (piecesTill (a .numbers .now) (a .held .now) (a .fragment) true (a .n))), p .2, p .3)
 
 install-sort-requires-2 : tie.Need-install-sort-requires-2
 install-sort-requires-2 c κs =     let a = c .before .before .before .before .before .before .before .before .before .before .before .before .args in
     let p = c .before .before .before .before .before .before .before .before .before .before .before .before .pre in
     let k = c .before .before .before .before .before .before .install-sort in
     (tables (p .0) (k .kept .0 ∙ p .0 .sections .size) (k .kept .1 .0),
-      omega (arith, p .1, k .ensures .counted, length-append (piecesTill (a .numbers .now) (a .held .now) (a .fragment) false (a .n)) (piecesTill (a .numbers .now) (a .held .now) (a .fragment) true (a .n))))
+      omega (arith, p .1, k .ensures .counted, length-append (piecesTill (a .numbers .now) (a .held .now) (a .fragment) false (a .n)) (piecesTill (a .numbers .now) (a .held .now) (a .fragment) true (a .n))), p .2, p .3)
 
 same-length : tie.Need-same-length
 same-length c = search needs

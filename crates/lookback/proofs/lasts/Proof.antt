@@ -35,7 +35,7 @@ last-chained-requires : tie.Need-last-chained-requires Inv-loop μ-loop
 last-chained-requires c κs =
     let l = c .before .before .before .before .before .loop in
     let b = c .before .bucket in
-    ready _ _ _ _ (l .i) _ _ (b .result) (l .inv .1) (b .ensures .0) (b .ensures .1) (omega arith) (omega arith)
+    ready _ _ _ (l .i) _ _ (b .result) (l .inv .1 .chains .index) (b .ensures .0) (b .ensures .1) (omega arith) (omega arith)
 
 mul-last : tie.Need-mul-last Inv-loop μ-loop
 mul-last c = search needs
@@ -74,8 +74,8 @@ loop-again c =
     let t = c .before .before .before .transaction-at in
     let s = c .before .before .before .before .stream-at in (
       omega arith,
-      built-more _ _ _ _ (l .i) (s .result) (t .result) (b .result) (l .inv .1) (b .ensures .0) (b .ensures .1) (s .ensures) (t .ensures)
-          (c .last-chained .result) (omega arith) (c .last-chained .ensures),
+      built-more _ _ _ (l .i) (s .result) (t .result) (b .result) (b .ensures .0) (b .ensures .1) (s .ensures) (t .ensures)
+          (l .last) (c .last-chained .result) (omega arith) (c .last-chained .ensures) (l .inv .1),
     )
 
 returns : tie.Need-returns Inv-loop μ-loop

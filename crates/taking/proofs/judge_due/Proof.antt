@@ -1,6 +1,8 @@
 -- `judge_due` answers 9, 10 and 11. Assumes nothing.
-use borrow.Author.Tests.{eq-eqb, ne-eqb, le-leb, lt-leb, not-true, not-false}
+use mathlib.Core.Path.{sym, _∙_}
+use borrow.Author.Tests.{eq-eqb, ne-eqb, not-true, not-false}
 use Rattle.taking.specs.Delivering.{judgeDue}
+use Rattle.taking.proofs.Judging.{out-of-turn, taken, full}
 use borrow.Author.Needs.{needs}
 use Rattle.taking.proofs.judge_due.Statement.{statement}
 use Rattle.taking.proofs.judge_due.Tie as tie
@@ -20,22 +22,22 @@ takes-requires : tie.Need-takes-requires
 takes-requires c κs = search needs
 
 returns-3 : tie.Need-returns-3
-unfolding judgeDue
 returns-3 c =
+    let t = c .before .takes in
     let s = c .before .before in
-    rw (ne-eqb _ _ (s .before .if1 .left), ← s .stage-of .ensures, ← c .before .takes .ensures, not-true (c .before .takes .result) (c .if3 .taken))
+    out-of-turn _ _ _ _ (s .before .if1 .left) (rw (s .stage-of .ensures) at (sym (t .ensures) ∙ not-true (t .result) (c .if3 .taken)))
 
 returns-4 : tie.Need-returns-4
-unfolding judgeDue
 returns-4 c =
+    let t = c .before .before .takes in
     let s = c .before .before .before in
-    rw (ne-eqb _ _ (s .before .if1 .left), ← s .stage-of .ensures, ← c .before .before .takes .ensures, not-false (c .before .before .takes .result) (c .before .if3 .left), lt-leb 256 _ (c .if4 .taken))
+    taken _ _ _ _ (s .before .if1 .left) (rw (s .stage-of .ensures) at (sym (t .ensures) ∙ not-false (t .result) (c .before .if3 .left))) (c .if4 .taken)
 
 returns-5 : tie.Need-returns-5
-unfolding judgeDue
 returns-5 c =
+    let t = c .before .before .takes in
     let s = c .before .before .before in
-    rw (ne-eqb _ _ (s .before .if1 .left), ← s .stage-of .ensures, ← c .before .before .takes .ensures, not-false (c .before .before .takes .result) (c .before .if3 .left), le-leb 256 _ (c .if4 .left))
+    full _ _ _ _ (s .before .if1 .left) (rw (s .stage-of .ensures) at (sym (t .ensures) ∙ not-false (t .result) (c .before .if3 .left))) (c .if4 .left)
 
 pub judge-due-spec : {M : Type 1} → statement M
 judge-due-spec =

@@ -9,8 +9,8 @@ use borrow.Author.Needs.{needs}
 use Rattle.verdicts.proofs.decides.Statement.{statement}
 use Rattle.verdicts.proofs.decides.Tie as tie
 
-last-with-requires : tie.Need-last-with-requires
-last-with-requires c κs = search needs
+last-indexed-requires : tie.Need-last-indexed-requires
+last-indexed-requires c κs = search needs
 
 commits-at-requires : tie.Need-commits-at-requires
 commits-at-requires c κs =     let a = c .before .before .args in
@@ -18,7 +18,7 @@ commits-at-requires c κs =     let a = c .before .before .args in
 
 returns : tie.Need-returns
 unfolding decides
-returns c = c .commits-at .ensures ∙ rw (c .before .last-with .ensures)
+returns c = c .commits-at .ensures ∙ rw (c .before .last-indexed .ensures)
 
 pub decides-spec : {M : Type 1} → statement M
-decides-spec = tie.close (tie.spec last-with-requires commits-at-requires returns)
+decides-spec = tie.close (tie.spec last-indexed-requires commits-at-requires returns)

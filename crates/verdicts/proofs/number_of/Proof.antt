@@ -43,7 +43,7 @@ element-copy-out-decided-by c = search needs
 decided-by-requires : tie.Need-decided-by-requires
 unfolding Lasts
 decided-by-requires c κs =     let k = c .before .before .before .before .before .before .before .pre in
-    (k .most, k .room, k .within, k .orderly, k .lasts _ (k .within))
+    (k .most, k .room, k .within, k .orderly, k .lasts _ (k .within), k .index)
 
 returns-2 : tie.Need-returns-2
 returns-2 c =     let k = c .before .before .before .before .before .before .before .before .pre in

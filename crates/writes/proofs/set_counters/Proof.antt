@@ -1,6 +1,6 @@
 -- `set_counters` writes the counters of a stream, and the other sections stay. Assumes nothing.
 use native.Mathlib.Omega.{arith}
-use Rattle.writes.proofs.Parts.{streams-lent}
+use Rattle.writes.proofs.Parts.{streams-set}
 use borrow.Author.Needs.{needs}
 use Rattle.writes.proofs.set_counters.Statement.{statement}
 use Rattle.writes.proofs.set_counters.Tie as tie
@@ -23,7 +23,7 @@ same-length c = search needs
 returns : tie.Need-returns
 returns c =
     let f = c .before .before .write-counters in
-    rw (← (f .ensures)) (streams-lent (c .before .before .before .before .before .args .lot .now) (f .last .0) (omega arith) (omega arith))
+    streams-set (c .before .before .before .before .before .args .lot .now) (f .last .0) (omega arith) (omega arith) (f .ensures)
 
 pub set-counters-spec : {M : Type 1} → statement M
 set-counters-spec =
