@@ -23,12 +23,11 @@ use Rattle.lot.specs.declared.Account as numbers
 use Rattle.lot.proofs.Shown.{head-shown}
 use Rattle.lot.proofs.Lengths.{length-places}
 use Rattle.lot.proofs.Views.{holds-shown, holds-well-formed, shown-count, section-fits}
-use Rattle.lot.proofs.Looked.{looked-held}
+use Rattle.lot.specs.Look.{Looked}
+use Rattle.lot.proofs.Looked.{looked-held, known}
 use Rattle.writes.specs.Sections.{WithHead, WithRecords}
 use Rattle.writes.proofs.Parts.{places-lent}
 use Rattle.writes.proofs.Changes.{sections-hold, streams-same}
-use Rattle.taking.specs.Delivering.{Looked}
-use Rattle.taking.proofs.Judging.{known}
 use Rattle.epoch.specs.Closed.{Closable, listedIn}
 use Rattle.epoch.specs.Closed as sections
 use Rattle.closing.specs.Closing.{Due, PlacesClosed, closedNumbers, CloseDone}

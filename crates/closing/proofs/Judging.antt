@@ -9,7 +9,7 @@ use borrow.Author.Tests.{leb-true, eq-eqb, ne-eqb, lt-ltb, le-ltb}
 use Rattle.wire.specs.Numbers.{number32}
 use Rattle.model.specs.Lists.{one, countBelow, bitsOf}
 use Rattle.model.specs.Account.{Account, accountFits}
-use Rattle.model.specs.Closing.{missing, judgeClose}
+use Rattle.model.specs.Closing.{missing, judgeClose, judgeRoom}
 use Rattle.model.specs.declared.Outcome.{Outcome}
 use Rattle.model.specs.declared.Outcome.the-variants.{Done, Refused}
 use Rattle.model.specs.declared.Refusal.the-variants.{TooShort, MarkMissing}
@@ -20,12 +20,11 @@ use Rattle.lot.specs.View.{holds, viewLot}
 use Rattle.lot.specs.declared.Account as numbers
 use Rattle.lot.proofs.Lengths.{length-streams}
 use Rattle.lot.proofs.Views.{holds-well-formed}
-use Rattle.lot.proofs.Looked.{looked-held}
-use Rattle.taking.specs.Delivering.{Looked}
-use Rattle.taking.proofs.Judging.{known}
+use Rattle.lot.specs.Look.{Looked}
+use Rattle.lot.proofs.Looked.{looked-held, known}
 use Rattle.epoch.specs.Missing.{missingIn, MissingMarks}
 use Rattle.epoch.proofs.Bits.{epoch-is}
-use Rattle.closing.specs.Closing.{judgeRoom, MarksJudged, Judged}
+use Rattle.closing.specs.Closing.{MarksJudged, Judged}
 
 -- ---- 16
 

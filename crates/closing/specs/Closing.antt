@@ -2,32 +2,21 @@
 use Prim.Native.Nat.{ℕ, _+_, _*_, _≤_}
 use mathlib.Core.Path.{_≡_}
 use mathlib.Core.List.{List, _++_}
-use lib.Dec.{ltb, eqb}
 use lib.ListN.{length, drop}
-use Rattle.model.specs.Lists.{if_then_else_}
 use Rattle.model.specs.Account.{Account}
-use Rattle.model.specs.Closing.{judgeClose, close, listed}
+use Rattle.model.specs.Closing.{LEAST-LIST, judgeClose, judgeRoom, close, listed, pairs, closeFrom}
 use Rattle.model.specs.declared.Outcome.{Outcome}
-use Rattle.model.specs.declared.Outcome.the-variants.{Done, Refused}
+use Rattle.model.specs.declared.Outcome.the-variants.{Done}
 use Rattle.model.specs.declared.Closed.{Closed}
 use Rattle.model.specs.declared.Closed.the-variants.{Pieces, NotClosed}
-use Rattle.model.specs.declared.Refusal.the-variants.{Damaged, NotThisAccount, TooShort}
 use Rattle.lot.specs.Layout.{placesOf}
-use Rattle.lot.specs.View.{Lot, free, damaged, holds, viewLot}
+use Rattle.lot.specs.View.{holds, viewLot, accountIn}
 use Rattle.lot.specs.declared.Account as numbers
 use Rattle.writes.specs.Sections.{WithPlaces}
-use Rattle.taking.specs.Delivering.{Looked}
+use Rattle.lot.specs.Look.{Looked}
 use Rattle.epoch.specs.Closed as sections
-use Rattle.epoch.specs.Closed.{pairs}
-
--- a list has room for the pieces of 256 entries
-abbrev pub LEAST-LIST : ℕ
-LEAST-LIST = 512
 
 -- ---- the judgement: 16, then 12
-
-unfoldable pub judgeRoom : Account → ℕ → Outcome
-judgeRoom a room = if ltb room LEAST-LIST then Refused TooShort else judgeClose a
 
 -- r is what the account that the lot l holds judges of a close, and of one with so much room
 abbrev pub MarksJudged : List ℕ → Outcome → Type 0
@@ -64,22 +53,10 @@ CloseDone l l' list list' count = (a : Account) → viewLot l ≡ holds a → Cl
 
 -- ---- 2 and 3, then the judgement; a refusal changes nothing
 
-abbrev pub closeJudged : Outcome → ℕ → Closed
-closeJudged Done count = Pieces count
-closeJudged (Refused r) count = NotClosed r
-
-abbrev pub closeOf : Account → ℕ → Closed
-closeOf a room = closeJudged (judgeRoom a room) (length (listed a))
-
-abbrev pub answerOf : Lot → ℕ → ℕ → Closed
-answerOf damaged number room = NotClosed Damaged
-answerOf free number room = NotClosed NotThisAccount
-answerOf (holds a) number room = if eqb (a .number) number then closeOf a room else NotClosed NotThisAccount
-
 abbrev pub Left : List ℕ → List ℕ → List ℕ → List ℕ → Closed → Type 0
 Left l l' list list' (Pieces count) = CloseDone l l' list list' count
 Left l l' list list' (NotClosed r) = (l' ≡ l) × (list' ≡ list)
 
 pub record LotClosed (l l' : List ℕ) (number : ℕ) (list list' : List ℕ) (r : Closed) : Type 0 where
-  pub answer : r ≡ answerOf (viewLot l) number (length list)
+  pub answer : r ≡ closeFrom (accountIn (viewLot l) number) (length list)
   pub left : Left l l' list list' r

@@ -1,11 +1,11 @@
 // Closing an epoch in one lot: one look at the lot, then the judgement, which only reads, then the close, section by section.
-// It stands on `lot` and `writes`, on `taking` for what a look at a lot tells, and on `epoch` for the close over sections.
+// It stands on `lot` and `writes`, and on `epoch` for the close over sections.
 ghost use mathlib.Core.Path.{_≡_};
 ghost use Prim.Native.Nat.{_<_};
 ghost use lib.ListN.{length};
 ghost use Rattle.lot.specs.Layout.{SIZE, placesOf};
 ghost use Rattle.writes.specs.Sections.{WithRecords};
-ghost use Rattle.taking.specs.Delivering.{Looked};
+ghost use Rattle.lot.specs.Look.{Looked};
 ghost use Rattle.epoch.specs.Closed.{Closable};
 ghost use Rattle.closing.specs.Closing.{MarksJudged, Judged, Due, PlacesClosed, closedNumbers, CloseDone, LotClosed};
 use epoch::Settled;

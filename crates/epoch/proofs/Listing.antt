@@ -6,14 +6,14 @@ use native.Mathlib.Omega.{arith}
 use lib.ListN.{length, getD, set, drop, length-append, length-map}
 use lib.Seq.{drop-cons, set-at}
 use Rattle.model.specs.Lists.{upward, sumBelow}
-use Rattle.model.specs.Closing.{Piece}
+use Rattle.model.specs.Closing.{Piece, pairs}
 use Rattle.model.proofs.Buckets.{upward-cong}
 use Rattle.model.specs.Section.{itemAt}
 use Rattle.verdicts.specs.Orderly.{Orderly}
 use Rattle.verdicts.specs.Verdicts.{Verdicts}
 use Rattle.install.specs.Pieces.{piecesOf, withPieces, countOf, withStreams}
 use Rattle.install.proofs.ToModel.{pieces-are}
-use Rattle.epoch.specs.Closed.{piecesIn, listedIn, pairs}
+use Rattle.epoch.specs.Closed.{piecesIn, listedIn}
 
 numbers-append : (ps qs : List Piece) → pairs (ps ++ qs) ≡ pairs ps ++ pairs qs
 unfolding pairs

@@ -2,11 +2,11 @@
 use Prim.Native.Nat.{ℕ, suc, _*_, _<_, _≤_}
 use mathlib.Core.Path.{_≡_}
 use mathlib.Core.Bool.{true}
-use mathlib.Core.List.{List, [], _∷_, _++_, map}
+use mathlib.Core.List.{List, _++_, map}
 use lib.ListN.{length, drop}
 use Rattle.model.specs.Lists.{upward, sumBelow}
 use Rattle.model.specs.Account.{Held}
-use Rattle.model.specs.Closing.{upto, Verdict, verdict, committed, pieces, survivors, apply, Piece}
+use Rattle.model.specs.Closing.{upto, Verdict, verdict, committed, pieces, survivors, apply, Piece, pairs}
 use Rattle.model.specs.Decoding.{mine}
 use Rattle.model.specs.declared.Counters.{Counters}
 use Rattle.model.proofs.ByStream.{Sorted}
@@ -46,11 +46,6 @@ module _ (h : List ℕ) (n e : ℕ) where
 
   unfoldable pub listedIn : ℕ → List Piece
   listedIn f = upward f 0 (λ i. map (λ t. record { fragment = i; transaction = t }) (piecesIn i))
-
--- the pairs of numbers (fragment, transaction), one after the other
-unfoldable pub pairs : List Piece → List ℕ
-pairs [] = []
-pairs (p ∷ ps) = p .fragment ∷ p .transaction ∷ pairs ps
 
 -- ---- what the close leaves: places h', records r', list l'; it answers p pieces and n' places
 

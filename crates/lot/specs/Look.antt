@@ -1,7 +1,9 @@
 -- What one look at a lot answers.
 use Prim.Native.Nat.{ℕ}
+use mathlib.Core.Path.{_≡_}
 use mathlib.Core.List.{List}
-use Rattle.lot.specs.Layout.{headOf}
+use lib.ListN.{length}
+use Rattle.lot.specs.Layout.{SIZE, headOf}
 use Rattle.lot.specs.View.{Lot, free, damaged, holds, viewLot}
 use Rattle.lot.specs.Head.{numbersOf}
 use Rattle.lot.specs.declared.Account.{Account}
@@ -16,3 +18,8 @@ lookAs n (holds a) = Holds n
 
 unfoldable pub lookOf : List ℕ → Look
 lookOf l = lookAs (numbersOf (headOf l)) (viewLot l)
+
+-- the lot l has been looked at, and n are the numbers of the account that it holds
+pub record Looked (l : List ℕ) (n : Account) : Type 0 where
+  pub size : length l ≡ SIZE
+  pub seen : lookOf l ≡ Holds n

@@ -6,7 +6,8 @@ use lib.Dec.{leb, ltb, eqb}
 use lib.ListN.{getD, take, drop}
 use Rattle.wire.specs.Numbers.{number16, number32}
 use Rattle.model.specs.Lists.{if_then_else_, every}
-use Rattle.model.specs.Account.{Record, absent, present, Fragment, Account, empty, accountFits, MOST-HELD}
+use Rattle.model.specs.Account.{Record, absent, present, Fragment, Account, empty, accountFits, MOST-HELD, Named, refused, found}
+use Rattle.model.specs.declared.Refusal.the-variants.{Damaged, NotThisAccount}
 use Rattle.model.specs.Decoding.{countersOf, itemOf, parse, mine, same}
 use Rattle.model.specs.Section.{sectionFits}
 use Rattle.lot.specs.Layout.{headOf, streamsOf, placesOf, recordsOf, FREE, OPEN}
@@ -90,3 +91,10 @@ view h s p r =
 
 unfoldable pub viewLot : List ℕ → Lot
 viewLot l = view (headOf l) (streamsOf l) (placesOf l) (recordsOf l)
+
+-- ---- 2 and 3: what a call finds that names an account in a lot
+
+abbrev pub accountIn : Lot → ℕ → Named
+accountIn damaged number = refused Damaged
+accountIn free number = refused NotThisAccount
+accountIn (holds a) number = if eqb (a .number) number then found a else refused NotThisAccount

@@ -4,14 +4,15 @@ use mathlib.Core.Path.{_≡_, refl, sym, ap, _∙_}
 use mathlib.Core.Bool.{true, false}
 use mathlib.Core.List.{List}
 use lib.Dec.{eqb}
+use Rattle.model.specs.Account.{refused, found}
 use Rattle.model.specs.declared.Refusal.the-variants.{NoSuchLot, NotThisAccount}
 use Rattle.model.proofs.Tests.{if-ap}
 use Rattle.lot.specs.Layout.{headOf}
-use Rattle.lot.specs.View.{Lot, free, damaged, holds, viewLot}
+use Rattle.lot.specs.View.{Lot, free, damaged, holds, viewLot, accountIn}
 use Rattle.lot.specs.Head.{numbersOf}
 use Rattle.lot.specs.Look.{lookOf, lookAs}
 use Rattle.lot.proofs.Looked.{head-numbers-of}
-use Rattle.lots.specs.Memory.{lotFits, lotOf, viewOf, accountIn, refused, found, named, someBelow, lowestBelow}
+use Rattle.lots.specs.Memory.{lotFits, lotOf, viewOf, named, someBelow, lowestBelow}
 use Rattle.lots.specs.Looks.{lookFrom, findingIn, findingOf, surveyOf, withLook}
 use Rattle.lots.specs.declared.Finding.the-variants.{Refused}
 use Rattle.lots.proofs.Parts.{part, part-is}

@@ -7,14 +7,14 @@ use lib.Dec.{eqb}
 use borrow.Author.Tests.{eqb-true, leb-true}
 use Rattle.model.specs.Lists.{if_then_else_}
 use Rattle.model.specs.Account as model
-use Rattle.model.specs.Account.{accountFits}
+use Rattle.model.specs.Account.{accountFits, Named, refused, found}
 use Rattle.model.specs.declared.Refusal.{Refusal}
 use Rattle.model.specs.declared.Refusal.the-variants.{NoSuchLot, NotThisAccount}
 use Rattle.model.proofs.Tests.{no-way, nth}
-use Rattle.lot.specs.View.{Lot, free, damaged, holds}
+use Rattle.lot.specs.View.{Lot, free, damaged, holds, accountIn}
 use Rattle.lot.specs.declared.Account.{Account}
 use Rattle.lot.proofs.Views.{holds-well-formed}
-use Rattle.lots.specs.Memory.{lotFits, lotOf, viewOf, accountIn, Named, refused, found, named}
+use Rattle.lots.specs.Memory.{lotFits, lotOf, viewOf, named}
 use Rattle.lots.specs.Looks.{numbersFrom, findingOf}
 use Rattle.lots.specs.declared.Finding.the-variants.{Refused, Found}
 

@@ -5,6 +5,7 @@ use mathlib.Core.List.{List}
 use lib.Dec.{eqb}
 use Rattle.model.specs.Lists.{if_then_else_}
 use Rattle.model.specs.Account as model
+use Rattle.model.specs.Account.{Named, refused, found}
 use Rattle.model.specs.declared.Refusal.the-variants as refusal
 use Rattle.model.specs.declared.Opened.{Opened}
 use Rattle.model.specs.declared.Opened.the-variants.{InLot, NotOpened}
@@ -13,7 +14,7 @@ use Rattle.lot.specs.Head.{numbersWith}
 use Rattle.lot.specs.declared.Account.{Account}
 use Rattle.lot.specs.declared.Look.{Look}
 use Rattle.lot.specs.declared.Look.the-variants.{Free, Damaged, Holds}
-use Rattle.lots.specs.Memory.{viewOf, Named, refused, found, isDamaged, isFree, isOf, someBelow, lowestBelow}
+use Rattle.lots.specs.Memory.{viewOf, isDamaged, isFree, isOf, someBelow, lowestBelow}
 use Rattle.lots.specs.declared.Finding.{Finding}
 use Rattle.lots.specs.declared.Finding.the-variants.{Refused, Found}
 use Rattle.lots.specs.declared.Survey.{Survey}

@@ -6,11 +6,10 @@ use mathlib.Core.List.{List, [], _∷_}
 use lib.Dec.{leb, ltb, eqb}
 use lib.ListN.{length, take, drop}
 use Rattle.model.specs.Lists.{if_then_else_, every}
-use Rattle.model.specs.Account.{Account}
-use Rattle.model.specs.declared.Refusal.{Refusal}
-use Rattle.model.specs.declared.Refusal.the-variants.{NoSuchLot, Damaged, NotThisAccount}
+use Rattle.model.specs.Account.{Named, refused}
+use Rattle.model.specs.declared.Refusal.the-variants.{NoSuchLot}
 use Rattle.lot.specs.Layout.{SIZE}
-use Rattle.lot.specs.View.{Lot, free, damaged, holds, viewLot}
+use Rattle.lot.specs.View.{Lot, free, damaged, holds, viewLot, accountIn}
 
 abbrev pub MOST-LOTS : ℕ
 MOST-LOTS = 16
@@ -40,15 +39,6 @@ abbrev pub Becomes : ℕ → List ℕ → List ℕ → Lot → Type 0
 Becomes i m m' v = OnlyLot i m m' × (viewOf m' i ≡ v)
 
 -- ---- 1, 2, 3: what a call that names a lot and an account finds
-
-pub data Named : Type 0 where
-  refused : Refusal → Named
-  found : Account → Named
-
-abbrev pub accountIn : Lot → ℕ → Named
-accountIn damaged number = refused Damaged
-accountIn free number = refused NotThisAccount
-accountIn (holds a) number = if eqb (a .number) number then found a else refused NotThisAccount
 
 unfoldable pub named : List ℕ → ℕ → ℕ → ℕ → Named
 named m lots lot number = if not (lotFits lots lot m) then refused NoSuchLot else accountIn (viewOf m lot) number

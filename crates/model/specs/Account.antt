@@ -6,6 +6,7 @@ use lib.Dec.{leb}
 use lib.ListN.{length}
 use Rattle.model.specs.Lists.{every, sumBelow}
 use Rattle.model.specs.declared.Counters.{Counters}
+use Rattle.model.specs.declared.Refusal.{Refusal}
 
 -- an entry that awaits settlement, in the epoch that was open in its stream when it was taken
 pub record Held : Type 0 where
@@ -74,3 +75,9 @@ fresh number f k = record { number = number; fragments = f; keys = k; closed = 0
 -- how many entries are held
 unfoldable pub heldCount : Account → ℕ
 heldCount a = sumBelow (λ i. length (a .at i .held)) (a .fragments)
+
+-- ---- what a call that names an account finds: the account, or why it is refused
+
+pub data Named : Type 0 where
+  refused : Refusal → Named
+  found : Account → Named

@@ -2,13 +2,16 @@
 use Prim.Native.Nat.{ℕ, suc}
 use mathlib.Core.Bool.{Bool, true, false, not, _&&_, _||_}
 use mathlib.Core.List.{List, [], _∷_, _++_, map}
-use lib.Dec.{leb, eqb}
+use lib.Dec.{leb, ltb, eqb}
+use lib.ListN.{length}
 use Rattle.model.specs.Lists.{if_then_else_, filter, any, upward, countBelow, bitsOf}
 use Rattle.model.specs.Entry.{PUT, DELETE, P, CC, CP, A}
-use Rattle.model.specs.Account.{Held, key, coordinator, Record, absent, present, Fragment, Account}
+use Rattle.model.specs.Account.{Held, key, coordinator, Record, absent, present, Fragment, Account, Named, refused, found}
 use Rattle.model.specs.declared.Outcome.{Outcome}
 use Rattle.model.specs.declared.Outcome.the-variants.{Done, Refused}
-use Rattle.model.specs.declared.Refusal.the-variants.{MarkMissing}
+use Rattle.model.specs.declared.Refusal.the-variants.{MarkMissing, TooShort}
+use Rattle.model.specs.declared.Closed.{Closed}
+use Rattle.model.specs.declared.Closed.the-variants.{Pieces, NotClosed}
 
 -- ---- possible when every stream has taken mark n
 
@@ -21,6 +24,14 @@ unfoldable pub judgeClose : Account → Outcome
 judgeClose a =
     if eqb (countBelow (missing a) (a .fragments)) 0 then Done
     else Refused (MarkMissing (bitsOf (missing a) (a .fragments)) (countBelow (missing a) (a .fragments)))
+
+-- a list has room for the pieces of 256 entries
+abbrev pub LEAST-LIST : ℕ
+LEAST-LIST = 512
+
+-- 16, then 12, of a close whose list has room for so many numbers
+unfoldable pub judgeRoom : Account → ℕ → Outcome
+judgeRoom a room = if ltb room LEAST-LIST then Refused TooShort else judgeClose a
 
 -- ---- what becomes of each transaction
 
@@ -135,3 +146,21 @@ pub record Piece : Type 0 where
 
 unfoldable pub listed : Account → List Piece
 listed a = upward (a .fragments) 0 (λ i. map (λ t. record { fragment = i; transaction = t }) (installed a i))
+
+-- as numbers, one after the other
+unfoldable pub pairs : List Piece → List ℕ
+pairs [] = []
+pairs (p ∷ ps) = p .fragment ∷ p .transaction ∷ pairs ps
+
+-- ---- close's answer: 1 to 3 where the account is not found, 16 and 12 where it is, or the count of the pieces
+
+abbrev pub closeJudged : Outcome → ℕ → Closed
+closeJudged Done count = Pieces count
+closeJudged (Refused r) count = NotClosed r
+
+abbrev pub closeOf : Account → ℕ → Closed
+closeOf a room = closeJudged (judgeRoom a room) (length (listed a))
+
+abbrev pub closeFrom : Named → ℕ → Closed
+closeFrom (refused r) room = NotClosed r
+closeFrom (found a) room = closeOf a room

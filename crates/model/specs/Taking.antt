@@ -7,7 +7,7 @@ use lib.ListN.{length}
 use Rattle.model.specs.Lists.{if_then_else_}
 use Rattle.model.specs.Entry.{LENGTH, entryOf, isMark, fits, inside}
 use Rattle.model.specs.Distance.{distance, belowZero, aboveZero, after}
-use Rattle.model.specs.Account.{Held, Fragment, Account, heldCount, MOST-HELD}
+use Rattle.model.specs.Account.{Held, Fragment, Account, heldCount, MOST-HELD, Named, refused, found}
 use Rattle.model.specs.Stages.{stage, takes}
 use Rattle.model.specs.declared.Entry.{Entry}
 use Rattle.model.specs.declared.Counters.{Counters}
@@ -32,6 +32,11 @@ judgeEntry a e =
 
 unfoldable pub judge : Account → List ℕ → Outcome
 judge a bytes = if not (eqb (length bytes) LENGTH) then Refused WrongLength else judgeEntry a (entryOf bytes)
+
+-- deliver's answer: 1 to 3 where the account is not found, 4 to 11 where it is
+abbrev pub deliverTo : Named → List ℕ → Outcome
+deliverTo (refused r) bytes = Refused r
+deliverTo (found a) bytes = judge a bytes
 
 -- ---- a taken entry
 

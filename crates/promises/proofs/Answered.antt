@@ -8,7 +8,7 @@ use lib.ListN.{length, take, drop}
 use lib.Seq.{take-at}
 use borrow.Author.Tests.{ltb-true}
 use Rattle.model.specs.Lists.{if_then_else_}
-use Rattle.model.specs.Account.{Account, Record, absent, present}
+use Rattle.model.specs.Account.{Account, Record, absent, present, Named, refused, found}
 use Rattle.model.specs.Image.{image, LONGEST-IMAGE}
 use Rattle.model.specs.declared.Refusal.{Refusal}
 use Rattle.model.specs.declared.Refusal.the-variants.{TooShort, OutsideAccount}
@@ -18,7 +18,7 @@ use Rattle.model.specs.declared.Found.the-variants.{NotRead}
 use Rattle.model.proofs.Tests.{no-way, and-l, and-r}
 use Rattle.lot.specs.View.{holds}
 use Rattle.lot.specs.Writing.{foundOf}
-use Rattle.lots.specs.Memory.{viewOf, Named, refused, found, named}
+use Rattle.lots.specs.Memory.{viewOf, named}
 use Rattle.lots.proofs.Named.{holder}
 use Rattle.standby.specs.Calls.{readFrom, readAnswer}
 use Rattle.standby.specs.Images.{saveFrom, saveAnswer, AccountSaved}

@@ -5,14 +5,14 @@ use mathlib.Core.Bool.{Bool, true, false, not, _&&_, _||_, or-true}
 use mathlib.Core.Option.{Option, some, none}
 use mathlib.Core.List.{List, [], _∷_, map}
 use lib.Dec.{ltb, eqb}
-use lib.ListN.{length}
+use lib.ListN.{length, getD}
 use borrow.Author.Tests.{eq-eqb}
 use Rattle.model.specs.Lists.{if_then_else_, any, countBelow, bitsOf}
 use Rattle.model.specs.Entry.{LENGTH, entryOf, fits, inside}
 use Rattle.model.specs.Distance.{belowZero, aboveZero}
-use Rattle.model.specs.Account.{Record, absent, present, Account, accountFits}
-use Rattle.model.specs.Taking.{judgeEntry, judge}
-use Rattle.model.specs.Closing.{missing, judgeClose, listed}
+use Rattle.model.specs.Account.{Record, absent, present, Account, accountFits, Named, refused, found}
+use Rattle.model.specs.Taking.{judgeEntry, judge, deliverTo}
+use Rattle.model.specs.Closing.{missing, judgeClose, listed, LEAST-LIST, judgeRoom, closeJudged, closeOf, closeFrom}
 use Rattle.model.specs.Image.{image, LONGEST-IMAGE}
 use Rattle.model.specs.Decoding.{load}
 use Rattle.model.specs.Answers.{refusalNumbers, outcomeNumbers, openedNumbers, closedNumbers, foundNumbers, savedNumbers}
@@ -27,12 +27,11 @@ use Rattle.model.specs.declared.Closed.the-variants.{Pieces, NotClosed}
 use Rattle.model.specs.declared.Found.the-variants.{Present, Absent, NotRead}
 use Rattle.model.specs.declared.Saved.the-variants.{Length, NotSaved}
 use Rattle.model.proofs.Tests.{no-way}
-use Rattle.lot.specs.View.{Lot, free, damaged, holds}
+use Rattle.lot.specs.View.{Lot, free, damaged, holds, accountIn}
 use Rattle.lot.specs.Writing.{foundOf}
-use Rattle.lots.specs.Memory.{memoryFits, lotFits, viewOf, isDamaged, isFree, someBelow, lowestBelow, Named, refused, found, accountIn, named}
-use Rattle.closing.specs.Closing.{LEAST-LIST, judgeRoom, closeJudged, closeOf}
-use Rattle.standby.specs.Calls.{startAnswer, placeFor, openAnswer, deliverTo, deliverAnswer, readFrom, readAnswer, dropFrom, dropAnswer}
-use Rattle.standby.specs.Closing.{closeFrom, closeAnswer}
+use Rattle.lots.specs.Memory.{memoryFits, lotFits, viewOf, isDamaged, isFree, someBelow, lowestBelow, named}
+use Rattle.standby.specs.Calls.{startAnswer, placeFor, openAnswer, deliverAnswer, readFrom, readAnswer, dropFrom, dropAnswer}
+use Rattle.standby.specs.Closing.{closeAnswer}
 use Rattle.standby.specs.Images.{saveFrom, saveAnswer, loadFrom, loadAnswer}
 use Rattle.overview.specs.Overview.{overviewAnswer}
 use Rattle.promises.specs.Runs.{Call, start, open-account, deliver, close-epoch, read-record, save-account, load-account, drop-account, overview, Reply, outcome, opened, closed, found as found-reply, saved, overviewed, replyNumbers, Step, starts, opens, delivers, closes, reads, saves, loads, drops, overviews}
@@ -66,6 +65,20 @@ in-order m (save-account lots lot number buffer) = refl
 in-order m (load-account lots given) = refl
 in-order m (drop-account lots lot number) = refl
 in-order m (overview lots rows) = refl
+
+-- ---- 1 goes by the lot count, the lot named and the memory's length alone
+
+pub length-decides : (m₁ m₂ : List ℕ) (c : Call) → length m₂ ≡ length m₁ → getD (conditions m₂ c) 0 (1 when true) ≡ getD (conditions m₁ c) 0 (1 when true)
+unfolding conditions memoryFits lotFits
+length-decides m₁ m₂ (start lots) e = rw e
+length-decides m₁ m₂ (open-account lots number f k) e = rw e
+length-decides m₁ m₂ (deliver lots lot number entry) e = rw e
+length-decides m₁ m₂ (close-epoch lots lot number list) e = rw e
+length-decides m₁ m₂ (read-record lots lot number fragment key) e = rw e
+length-decides m₁ m₂ (save-account lots lot number buffer) e = rw e
+length-decides m₁ m₂ (load-account lots given) e = rw e
+length-decides m₁ m₂ (drop-account lots lot number) e = rw e
+length-decides m₁ m₂ (overview lots rows) e = rw e
 
 -- ---- the answer's number is that of the first condition that holds
 

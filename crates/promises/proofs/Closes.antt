@@ -8,17 +8,15 @@ use lib.Dec.{ltb}
 use lib.ListN.{length, drop}
 use lib.Seq.{drop-at}
 use Rattle.model.specs.Lists.{if_then_else_}
-use Rattle.model.specs.Account.{Account}
-use Rattle.model.specs.Closing.{Piece, judgeClose, close, listed}
+use Rattle.model.specs.Account.{Account, Named, refused, found}
+use Rattle.model.specs.Closing.{Piece, judgeClose, close, listed, closeFrom, pairs, LEAST-LIST, judgeRoom, closeJudged, closeOf}
 use Rattle.model.specs.declared.Outcome.{Outcome}
 use Rattle.model.specs.declared.Outcome.the-variants.{Done, Refused}
 use Rattle.model.specs.declared.Refusal.the-variants.{TooShort}
 use Rattle.model.specs.declared.Closed.the-variants.{Pieces}
 use Rattle.model.proofs.Tests.{no-way}
-use Rattle.lots.specs.Memory.{Named, refused, found, named}
-use Rattle.epoch.specs.Closed.{pairs}
-use Rattle.closing.specs.Closing.{LEAST-LIST, judgeRoom, closeJudged, closeOf}
-use Rattle.standby.specs.Closing.{EpochClosed, closeFrom, closeAnswer}
+use Rattle.lots.specs.Memory.{named}
+use Rattle.standby.specs.Closing.{EpochClosed, closeAnswer}
 use Rattle.promises.specs.Runs as runs
 use Rattle.promises.specs.Runs.{Step, closes, close-epoch}
 use Rattle.promises.specs.Own.{firstPieces}

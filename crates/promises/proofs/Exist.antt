@@ -8,10 +8,10 @@ use lib.Dec.{ltb, eqb}
 use lib.ListN.{length, drop}
 use Rattle.model.specs.Lists.{if_then_else_}
 use Rattle.model.specs.Entry.{LENGTH, entryOf}
-use Rattle.model.specs.Account.{Account, fresh}
+use Rattle.model.specs.Account.{Account, fresh, Named, refused, found}
 use Rattle.model.specs.Accepting.{WellFormed}
-use Rattle.model.specs.Taking.{judgeEntry, judge, taken}
-use Rattle.model.specs.Closing.{judgeClose, close, listed}
+use Rattle.model.specs.Taking.{judgeEntry, judge, taken, deliverTo}
+use Rattle.model.specs.Closing.{judgeClose, close, listed, LEAST-LIST, judgeRoom, closeJudged, closeOf, pairs, closeFrom}
 use Rattle.model.specs.Image.{image}
 use Rattle.model.specs.declared.Refusal.the-variants.{NoSuchLot, WrongLength, TooShort}
 use Rattle.model.specs.declared.Outcome.{Outcome}
@@ -28,13 +28,11 @@ use Rattle.model.proofs.Image.{loads-exactly}
 use Rattle.lot.specs.Layout.{SIZE}
 use Rattle.lot.specs.View.{free, holds}
 use Rattle.lot.proofs.Views.{holds-well-formed}
-use Rattle.lots.specs.Memory.{memoryFits, lotFits, lotOf, viewOf, Becomes, Named, refused, found, named}
+use Rattle.lots.specs.Memory.{memoryFits, lotFits, lotOf, viewOf, Becomes, named}
 use Rattle.lots.proofs.Named.{Holder, holder}
 use Rattle.lots.proofs.Parts.{memory-long, lot-inside}
-use Rattle.closing.specs.Closing.{LEAST-LIST, judgeRoom, closeJudged, closeOf}
-use Rattle.epoch.specs.Closed.{pairs}
-use Rattle.standby.specs.Calls.{AllFree, openAnswer, deliverTo, deliverAnswer, TakenBy, dropFrom, dropAnswer}
-use Rattle.standby.specs.Closing.{closeFrom, closeAnswer, ClosedAs}
+use Rattle.standby.specs.Calls.{AllFree, openAnswer, deliverAnswer, TakenBy, dropFrom, dropAnswer}
+use Rattle.standby.specs.Closing.{closeAnswer, ClosedAs}
 use Rattle.standby.specs.Images.{saveFrom, saveAnswer, SavedIn, loadAnswer, AccountLoaded}
 use Rattle.standby.proofs.Calls.{not-started, is-started, none-yet, one-freed}
 use Rattle.overview.specs.Overview.{overviewAnswer, rowsFor, rowsWith}

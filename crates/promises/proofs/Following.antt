@@ -8,9 +8,9 @@ use lib.ListN.{length}
 use borrow.Author.Tests.{eqb-true}
 use Rattle.model.specs.Lists.{if_then_else_}
 use Rattle.model.specs.Entry.{LENGTH, entryOf}
-use Rattle.model.specs.Account.{Account, fresh}
+use Rattle.model.specs.Account.{Account, fresh, Named, refused, found}
 use Rattle.model.specs.Taking as taking
-use Rattle.model.specs.Taking.{judgeEntry, judge}
+use Rattle.model.specs.Taking.{judgeEntry, judge, deliverTo}
 use Rattle.model.specs.Closing.{Piece, close, listed}
 use Rattle.model.specs.Runs as model
 use Rattle.model.specs.Runs.{run, lists, Allowed}
@@ -22,8 +22,8 @@ use Rattle.model.specs.declared.Closed.the-variants.{Pieces, NotClosed}
 use Rattle.model.specs.declared.Refusal.the-variants.{WrongLength}
 use Rattle.model.proofs.Tests.{no-way, and-l, and-r}
 use Rattle.lot.specs.View.{viewLot, holds}
-use Rattle.lots.specs.Memory.{viewOf, Named, refused, found, named}
-use Rattle.standby.specs.Calls.{Delivered, deliverTo, deliverAnswer, TakenBy}
+use Rattle.lots.specs.Memory.{viewOf, named}
+use Rattle.standby.specs.Calls.{Delivered, deliverAnswer, TakenBy}
 use Rattle.standby.specs.Closing.{EpochClosed}
 use Rattle.promises.specs.Runs as runs
 use Rattle.promises.specs.Runs.{Call, open-account, close-epoch, Reply, opened, Step, starts, opens, delivers, closes, reads, saves, loads, drops, overviews, Turn, Run, ends, goes}

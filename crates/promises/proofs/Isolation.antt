@@ -12,9 +12,9 @@ use lib.ListN.{length}
 use borrow.Author.Tests.{eq-eqb, eqb-true}
 use Rattle.model.specs.Lists.{if_then_else_}
 use Rattle.model.specs.Entry.{entryOf}
-use Rattle.model.specs.Account.{Account}
-use Rattle.model.specs.Taking.{taken}
-use Rattle.model.specs.Closing.{close}
+use Rattle.model.specs.Account.{Account, Named, refused, found}
+use Rattle.model.specs.Taking.{taken, deliverTo}
+use Rattle.model.specs.Closing.{close, closeFrom}
 use Rattle.model.specs.declared.Refusal.the-variants.{NoSuchLot, NotThisAccount}
 use Rattle.model.specs.declared.Outcome.{Outcome}
 use Rattle.model.specs.declared.Outcome.the-variants.{Done, Refused}
@@ -26,11 +26,11 @@ use Rattle.model.specs.declared.Saved.{Saved}
 use Rattle.model.specs.declared.Saved.the-variants.{Length, NotSaved}
 use Rattle.model.proofs.Tests.{no-way, and-l}
 use Rattle.lot.specs.View.{Lot, free, damaged, holds, viewLot}
-use Rattle.lots.specs.Memory.{memoryFits, lotFits, lotOf, viewOf, Becomes, isFree, Named, refused, found, named}
+use Rattle.lots.specs.Memory.{memoryFits, lotFits, lotOf, viewOf, Becomes, isFree, named}
 use Rattle.lots.proofs.Named.{holder}
 use Rattle.lots.proofs.Parts.{others-stay}
-use Rattle.standby.specs.Calls.{deliverTo, deliverAnswer, TakenBy, Delivered, readFrom, readAnswer, dropFrom, dropAnswer, Freed, Dropped}
-use Rattle.standby.specs.Closing.{closeFrom, closeAnswer, ClosedAs, EpochClosed}
+use Rattle.standby.specs.Calls.{deliverAnswer, TakenBy, Delivered, readFrom, readAnswer, dropFrom, dropAnswer, Freed, Dropped}
+use Rattle.standby.specs.Closing.{closeAnswer, ClosedAs, EpochClosed}
 use Rattle.standby.specs.Images.{saveFrom, saveAnswer, SavedIn, AccountSaved, loadAnswer, LoadedAs, AccountLoaded}
 use Rattle.standby.proofs.Determined.{closed-alike}
 use Rattle.standby.proofs.Isolated.{open-elsewhere}

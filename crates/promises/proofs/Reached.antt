@@ -8,11 +8,11 @@ use lib.ListN.{length, drop, replicate}
 use borrow.Author.Tests.{eq-eqb, lt-ltb, le-ltb}
 use Rattle.wire.specs.Numbers.{number16, number32, bytes16, bytes32}
 use Rattle.model.specs.Entry.{LENGTH, entryOf}
-use Rattle.model.specs.Account.{Account, fresh}
+use Rattle.model.specs.Account.{Account, fresh, found}
 use Rattle.model.specs.Accepting.{WellFormed}
 use Rattle.model.specs.Taking as taking
 use Rattle.model.specs.Taking.{judgeEntry, judge}
-use Rattle.model.specs.Closing.{judgeClose, close, listed}
+use Rattle.model.specs.Closing.{judgeClose, close, listed, pairs, LEAST-LIST, judgeRoom}
 use Rattle.model.specs.Image.{image, LONGEST-IMAGE}
 use Rattle.model.specs.Runs as model
 use Rattle.model.specs.Runs.{run, Allowed}
@@ -26,9 +26,7 @@ use Rattle.model.proofs.Keeping.{fresh-well-formed, taken-well-formed, closed-w
 use Rattle.lot.specs.View.{holds}
 use Rattle.lot.specs.Writing.{foundOf}
 use Rattle.lot.proofs.Views.{holds-well-formed}
-use Rattle.epoch.specs.Closed.{pairs}
-use Rattle.closing.specs.Closing.{LEAST-LIST, judgeRoom}
-use Rattle.lots.specs.Memory.{memoryFits, lotFits, lotOf, viewOf, Becomes, named, found}
+use Rattle.lots.specs.Memory.{memoryFits, lotFits, lotOf, viewOf, Becomes, named}
 use Rattle.lots.proofs.Parts.{lot-inside}
 use Rattle.standby.specs.Calls.{openAnswer, deliverAnswer, Delivered, readAnswer}
 use Rattle.standby.specs.Closing.{closeAnswer, EpochClosed}

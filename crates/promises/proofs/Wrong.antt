@@ -13,10 +13,10 @@ use Rattle.wire.specs.Numbers.{number16, number32}
 use Rattle.model.specs.Lists.{every, any, filter, upward, sumBelow}
 use Rattle.model.specs.Entry.{entryOf, fits, fieldsFit, inside, inAccount}
 use Rattle.model.specs.Distance.{distance}
-use Rattle.model.specs.Account.{Account, fresh, accountFits, heldCount}
+use Rattle.model.specs.Account.{Account, fresh, accountFits, heldCount, Named, refused, found}
 use Rattle.model.specs.Stages.{stageFrom, takes}
 use Rattle.model.specs.Taking.{judge, judgeEntry, stepped, hold, take, taken}
-use Rattle.model.specs.Closing.{missing, judgeClose, upto, verdict, committed, pieces, close, installed, listed}
+use Rattle.model.specs.Closing.{missing, judgeClose, upto, verdict, committed, pieces, close, installed, listed, LEAST-LIST, judgeRoom, closeJudged, pairs, closeFrom}
 use Rattle.model.specs.Image.{image}
 use Rattle.model.specs.Decoding.{load}
 use Rattle.model.specs.declared.Entry.{Entry}
@@ -31,12 +31,10 @@ use Rattle.model.proofs.Image.{save-load}
 use Rattle.lot.specs.Layout.{SIZE}
 use Rattle.lot.specs.View.{free, holds}
 use Rattle.lot.proofs.Views.{holds-well-formed}
-use Rattle.lots.specs.Memory.{memoryFits, lotFits, viewOf, lotOf, someBelow, lowestBelow, Named, refused, found, named}
+use Rattle.lots.specs.Memory.{memoryFits, lotFits, viewOf, lotOf, someBelow, lowestBelow, named}
 use Rattle.lots.proofs.Named.{holder}
-use Rattle.closing.specs.Closing.{LEAST-LIST, judgeRoom, closeJudged}
-use Rattle.epoch.specs.Closed.{pairs}
 use Rattle.standby.specs.Calls.{Started, startAnswer, AccountOpened, openAnswer, placeFor, Delivered, deliverAnswer}
-use Rattle.standby.specs.Closing.{EpochClosed, closeFrom, closeAnswer}
+use Rattle.standby.specs.Closing.{EpochClosed, closeAnswer}
 use Rattle.promises.specs.Runs.{Call, start, open-account, deliver, close-epoch, Reply, outcome, opened, closed, Step, starts, opens, delivers, closes}
 use Rattle.promises.specs.Written.{isDone}
 use Rattle.promises.specs.Answers.{conditions, firstMet}

@@ -12,7 +12,7 @@ use lib.IntN.{ℤ}
 use Rattle.model.specs.Distance.{distance, belowZero, aboveZero}
 use Rattle.model.specs.Account.{Account, accountFits, heldCount, MOST-HELD}
 use Rattle.model.specs.Stages.{stage, takes}
-use Rattle.model.specs.Closing.{missing}
+use Rattle.model.specs.Closing.{missing, LEAST-LIST}
 use Rattle.model.specs.Image.{LONGEST-IMAGE}
 use Rattle.model.specs.Decoding.{load}
 use Rattle.model.specs.Answers.{outcomeNumbers, openedNumbers, closedNumbers, foundNumbers, savedNumbers}
@@ -20,7 +20,6 @@ use Rattle.model.specs.declared.Entry.{Entry}
 use Rattle.model.specs.declared.Numbers.{Numbers}
 use Rattle.lot.specs.View.{Lot, free, damaged, holds}
 use Rattle.lots.specs.Memory.{memoryFits, lotFits, viewOf, isDamaged, isFree, isOf, someBelow}
-use Rattle.closing.specs.Closing.{LEAST-LIST}
 use Rattle.standby.specs.Calls.{startAnswer, openAnswer, deliverAnswer, readAnswer, dropAnswer}
 use Rattle.standby.specs.Closing.{closeAnswer}
 use Rattle.standby.specs.Images.{saveAnswer, loadAnswer}
@@ -83,7 +82,7 @@ abbrev pub ofShown : Option Account → (Account → Bool) → Bool
 ofShown none p = false
 ofShown (some a) p = p a
 
--- 2 and 3 of a named lot
+-- 3: the lot is free or another account's
 abbrev pub freeOrOther : ℕ → Lot → Bool
 freeOrOther number free = true
 freeOrOther number damaged = false
@@ -147,6 +146,7 @@ closeConditions v room = 16 when ltb room LEAST-LIST ∷ 12 when ofHeld v (λ a.
 abbrev pub outside : Lot → ℕ → ℕ → Condition
 outside v fragment key = 6 when ofHeld v (λ a. not (ltb fragment (a .fragments) && ltb key (a .keys)))
 
+-- the conditions of a call, in its order
 unfoldable pub conditions : List ℕ → Call → List Condition
 conditions m (start lots) = unfit-memory m lots ∷ []
 conditions m (open-account lots number f k) =

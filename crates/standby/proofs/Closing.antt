@@ -1,35 +1,25 @@
 -- What a close in a lot that is lent is answered, and what it leaves of the memory and of the list. Assumes nothing.
 use Prim.Native.Nat.{ℕ, _+_, _*_, _≤_}
 use mathlib.Core.Path.{_≡_, refl, _∙_}
-use mathlib.Core.Bool.{Bool, true, false}
+use mathlib.Core.Bool.{true, false}
 use mathlib.Core.List.{List}
-use lib.Dec.{eqb}
 use lib.ListN.{length, take-append-drop}
-use Rattle.model.specs.Lists.{if_then_else_}
-use Rattle.model.specs.declared.Refusal.the-variants.{NoSuchLot, NotThisAccount}
+use Rattle.model.specs.Closing.{closeFrom}
+use Rattle.model.specs.declared.Refusal.the-variants.{NoSuchLot}
 use Rattle.model.specs.declared.Closed.{Closed}
 use Rattle.model.specs.declared.Closed.the-variants.{Pieces, NotClosed}
 use Rattle.lot.specs.Layout.{SIZE}
-use Rattle.lot.specs.View.{Lot, free, damaged, holds}
-use Rattle.closing.specs.Closing.{closeOf, answerOf, Left, LotClosed}
-use Rattle.lots.specs.Memory.{lotFits, viewOf, accountIn, refused, found, named}
-use Rattle.standby.specs.Closing.{closeFrom, closeAnswer, ClosedAs, EpochClosed}
+use Rattle.lot.specs.View.{accountIn}
+use Rattle.closing.specs.Closing.{Left, LotClosed}
+use Rattle.lots.specs.Memory.{lotFits, viewOf, named}
+use Rattle.standby.specs.Closing.{closeAnswer, ClosedAs, EpochClosed}
 use Rattle.lots.proofs.Parts.{part, part-is, left, lent}
-
-answers-alike : (v : Lot) (number room : ℕ) → answerOf v number room ≡ closeFrom (accountIn v number) room
-answers-alike free number room = refl
-answers-alike damaged number room = refl
-answers-alike (holds a) number room = go (eqb (a .number) number)
-  where
-    go : (b : Bool) → (if b then closeOf a room else NotClosed NotThisAccount) ≡ closeFrom (if b then found a else refused NotThisAccount) room
-    go true = refl
-    go false = refl
 
 module _ (m : List ℕ) (i : ℕ) (q : List ℕ) (inside : i * SIZE + SIZE ≤ length m) (kept : length q ≡ length (part m i)) (number : ℕ) (list list' : List ℕ) where
   pub closed-in : (r : Closed) → LotClosed (part m i) q number list list' r
       → (r ≡ closeFrom (accountIn (viewOf m i) number) (length list)) × ClosedAs m (left m i q inside kept) i list list' r
   unfolding viewOf
-  closed-in r w = (w .answer ∙ rw (part-is m i) (answers-alike (viewOf m i) number (length list)), go r (w .left))
+  closed-in r w = (w .answer ∙ rw (part-is m i), go r (w .left))
     where
       go : (r : Closed) → Left (part m i) q list list' r → ClosedAs m (left m i q inside kept) i list list' r
       go (Pieces count) t = (lent m i q inside kept refl .0, λ a v. let d = t a (rw (part-is m i) v) in (lent m i q inside kept (d .view) .1, d .list-is))

@@ -1,37 +1,26 @@
 -- What an entry delivered to a lot that is lent is answered, and what it leaves of the memory. Assumes nothing.
 use Prim.Native.Nat.{ℕ, _+_, _*_, _≤_}
 use mathlib.Core.Path.{_≡_, refl, _∙_}
-use mathlib.Core.Bool.{Bool, true, false}
+use mathlib.Core.Bool.{true, false}
 use mathlib.Core.List.{List}
-use lib.Dec.{eqb}
 use lib.ListN.{length, take-append-drop}
-use Rattle.model.specs.Lists.{if_then_else_}
-use Rattle.model.specs.Taking.{judge}
-use Rattle.model.specs.declared.Refusal.the-variants.{NoSuchLot, NotThisAccount}
+use Rattle.model.specs.Taking.{deliverTo}
+use Rattle.model.specs.declared.Refusal.the-variants.{NoSuchLot}
 use Rattle.model.specs.declared.Outcome.{Outcome}
 use Rattle.model.specs.declared.Outcome.the-variants.{Done, Refused}
 use Rattle.lot.specs.Layout.{SIZE}
-use Rattle.lot.specs.View.{Lot, free, damaged, holds}
+use Rattle.lot.specs.View.{accountIn}
 use Rattle.taking.specs.Delivering as taking
-use Rattle.taking.specs.Delivering.{answerOf, Left}
-use Rattle.lots.specs.Memory.{lotFits, viewOf, accountIn, refused, found, named}
-use Rattle.standby.specs.Calls.{deliverTo, deliverAnswer, TakenBy, Delivered}
+use Rattle.taking.specs.Delivering.{Left}
+use Rattle.lots.specs.Memory.{lotFits, viewOf, named}
+use Rattle.standby.specs.Calls.{deliverAnswer, TakenBy, Delivered}
 use Rattle.lots.proofs.Parts.{part, part-is, left, lent}
-
-answers-alike : (v : Lot) (number : ℕ) (bytes : List ℕ) → answerOf v number bytes ≡ deliverTo (accountIn v number) bytes
-answers-alike free number bytes = refl
-answers-alike damaged number bytes = refl
-answers-alike (holds a) number bytes = go (eqb (a .number) number)
-  where
-    go : (b : Bool) → (if b then judge a bytes else Refused NotThisAccount) ≡ deliverTo (if b then found a else refused NotThisAccount) bytes
-    go true = refl
-    go false = refl
 
 module _ (m : List ℕ) (i : ℕ) (q : List ℕ) (inside : i * SIZE + SIZE ≤ length m) (kept : length q ≡ length (part m i)) (number : ℕ) (bytes : List ℕ) where
   pub delivered-in : (r : Outcome) → taking.Delivered (part m i) q number bytes r
       → (r ≡ deliverTo (accountIn (viewOf m i) number) bytes) × TakenBy m (left m i q inside kept) i bytes r
   unfolding viewOf
-  delivered-in r w = (w .answer ∙ rw (part-is m i) (answers-alike (viewOf m i) number bytes), go r (w .left))
+  delivered-in r w = (w .answer ∙ rw (part-is m i), go r (w .left))
     where
       go : (r : Outcome) → Left (part m i) q bytes r → TakenBy m (left m i q inside kept) i bytes r
       go Done t = (lent m i q inside kept refl .0, λ a v. lent m i q inside kept (t a (rw (part-is m i) v)) .1)

@@ -3,21 +3,22 @@ use Prim.Native.Nat.{ℕ, _<_}
 use mathlib.Core.Path.{_≡_, refl, sym, _∙_}
 use mathlib.Core.List.{List}
 use lib.ListN.{length}
-use Rattle.model.specs.Account.{fresh}
-use Rattle.model.specs.Taking.{taken}
+use Rattle.model.specs.Account.{fresh, Named, refused, found}
+use Rattle.model.specs.Taking.{deliverTo}
+use Rattle.model.specs.Closing.{closeFrom}
 use Rattle.model.specs.declared.Outcome.{Outcome}
 use Rattle.model.specs.declared.Outcome.the-variants.{Done, Refused}
 use Rattle.model.specs.declared.Opened.{Opened}
 use Rattle.model.specs.declared.Opened.the-variants.{InLot, NotOpened}
 use Rattle.model.specs.declared.Closed.{Closed}
 use Rattle.model.specs.declared.Closed.the-variants.{Pieces, NotClosed}
-use Rattle.model.specs.declared.Saved.{Saved}
-use Rattle.model.specs.declared.Saved.the-variants.{Length, NotSaved}
 use Rattle.model.proofs.Tests.{no-way}
 use Rattle.lot.specs.View.{Lot}
-use Rattle.lots.specs.Memory.{viewOf, OnlyLot, Becomes, Named, refused, found, named}
-use Rattle.standby.specs.Calls.{FreedAll, Started, OpenedAs, AccountOpened, deliverTo, deliverAnswer, TakenBy, Delivered, Freed, Dropped}
-use Rattle.standby.specs.Closing.{closeFrom, closeAnswer, ClosedAs, EpochClosed}
+use Rattle.lots.specs.Memory.{viewOf, OnlyLot, Becomes, named}
+use Rattle.standby.specs.Calls.{FreedAll, Started, OpenedAs, AccountOpened, deliverAnswer, TakenBy, Delivered, Freed, Dropped}
+use Rattle.standby.specs.Closing.{closeAnswer, ClosedAs, EpochClosed}
+use Rattle.model.specs.declared.Saved.{Saved}
+use Rattle.model.specs.declared.Saved.the-variants.{Length, NotSaved}
 use Rattle.standby.specs.Images.{SavedIn, saveAnswer, AccountSaved, LoadedAs, loadAnswer, AccountLoaded}
 use Rattle.lots.proofs.Named.{holder}
 use Rattle.standby.proofs.Saving.{saving}

@@ -7,8 +7,8 @@ use lib.Dec.{ltb, eqb}
 use lib.ListN.{length, drop}
 use Rattle.model.specs.Lists.{if_then_else_}
 use Rattle.model.specs.Entry.{entryOf}
-use Rattle.model.specs.Account.{Account, accountFits, fresh}
-use Rattle.model.specs.Taking.{judge, taken}
+use Rattle.model.specs.Account.{Account, accountFits, fresh, Named, refused, found}
+use Rattle.model.specs.Taking.{deliverTo, taken}
 use Rattle.model.specs.declared.Refusal.the-variants.{NoSuchLot, Damaged, NotThisAccount, OutsideAccount, AlreadyOpen, NoFreeLot, UnfitAccount}
 use Rattle.model.specs.declared.Outcome.{Outcome}
 use Rattle.model.specs.declared.Outcome.the-variants.{Done, Refused}
@@ -18,7 +18,7 @@ use Rattle.model.specs.declared.Found.{Found}
 use Rattle.model.specs.declared.Found.the-variants.{NotRead}
 use Rattle.lot.specs.View.{Lot, free, damaged, holds}
 use Rattle.lot.specs.Writing.{foundOf}
-use Rattle.lots.specs.Memory.{memoryFits, lotFits, viewOf, OnlyLot, Becomes, Named, refused, found, named, isDamaged, isFree, isOf, someBelow, lowestBelow}
+use Rattle.lots.specs.Memory.{memoryFits, lotFits, viewOf, OnlyLot, Becomes, named, isDamaged, isFree, isOf, someBelow, lowestBelow}
 
 -- ---- start: 1
 
@@ -65,10 +65,6 @@ pub record AccountOpened (m m' : List ℕ) (lots number f k : ℕ) (r : Opened) 
   pub opened : OpenedAs m m' (fresh number f k) r
 
 -- ---- deliver: 1 to 11
-
-abbrev pub deliverTo : Named → List ℕ → Outcome
-deliverTo (refused r) bytes = Refused r
-deliverTo (found a) bytes = judge a bytes
 
 unfoldable pub deliverAnswer : List ℕ → ℕ → ℕ → ℕ → List ℕ → Outcome
 deliverAnswer m lots lot number bytes = deliverTo (named m lots lot number) bytes

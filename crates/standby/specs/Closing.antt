@@ -4,17 +4,11 @@ use mathlib.Core.Path.{_≡_}
 use mathlib.Core.List.{List, _++_}
 use lib.ListN.{length, drop}
 use Rattle.model.specs.Account.{Account}
-use Rattle.model.specs.Closing.{close, listed}
+use Rattle.model.specs.Closing.{close, listed, pairs, closeFrom}
 use Rattle.model.specs.declared.Closed.{Closed}
 use Rattle.model.specs.declared.Closed.the-variants.{Pieces, NotClosed}
 use Rattle.lot.specs.View.{holds}
-use Rattle.epoch.specs.Closed.{pairs}
-use Rattle.closing.specs.Closing.{closeOf}
-use Rattle.lots.specs.Memory.{viewOf, OnlyLot, Named, refused, found, named}
-
-abbrev pub closeFrom : Named → ℕ → Closed
-closeFrom (refused r) room = NotClosed r
-closeFrom (found a) room = closeOf a room
+use Rattle.lots.specs.Memory.{viewOf, OnlyLot, named}
 
 unfoldable pub closeAnswer : List ℕ → ℕ → ℕ → ℕ → List ℕ → Closed
 closeAnswer m lots lot number list = closeFrom (named m lots lot number) (length list)

@@ -7,7 +7,7 @@ use mathlib.Core.List.{List, _++_}
 use lib.Dec.{ltb}
 use lib.ListN.{length, drop}
 use Rattle.model.specs.Lists.{if_then_else_}
-use Rattle.model.specs.Account.{Account}
+use Rattle.model.specs.Account.{Account, Named, refused, found}
 use Rattle.model.specs.Image.{image, LONGEST-IMAGE}
 use Rattle.model.specs.Decoding.{load}
 use Rattle.model.specs.declared.Refusal.the-variants.{NoSuchLot, Damaged, TooShort, NotAccepted}
@@ -16,7 +16,7 @@ use Rattle.model.specs.declared.Saved.the-variants.{Length, NotSaved}
 use Rattle.model.specs.declared.Opened.{Opened}
 use Rattle.model.specs.declared.Opened.the-variants.{InLot, NotOpened}
 use Rattle.lot.specs.View.{holds}
-use Rattle.lots.specs.Memory.{memoryFits, viewOf, Named, refused, found, named, isDamaged, someBelow}
+use Rattle.lots.specs.Memory.{memoryFits, viewOf, named, isDamaged, someBelow}
 use Rattle.standby.specs.Calls.{placeFor, OpenedAs}
 
 -- ---- save; it lends its memory unchanged

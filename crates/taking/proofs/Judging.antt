@@ -1,13 +1,13 @@
--- What a look at a lot tells the judgement, and a law for each of its answers. Assumes nothing.
+-- The judgement from a look at a lot: a law for each of its answers. Assumes nothing.
 use Prim.Native.Nat.{ℕ, _+_, _*_, _≤_}
 use mathlib.Core.Path.{_≡_, _∙_}
 use mathlib.Core.Bool.{true, false}
 use mathlib.Core.List.{List}
 use native.Mathlib.Omega.{arith}
 use lib.ListN.{length, drop}
-use borrow.Author.Tests.{leb-true, eq-eqb, ne-eqb}
+use borrow.Author.Tests.{eq-eqb, ne-eqb}
 use Rattle.model.specs.Entry.{LENGTH, entryOf, fits, inside}
-use Rattle.model.specs.Account.{Held, Account, accountFits, heldCount}
+use Rattle.model.specs.Account.{Held}
 use Rattle.model.specs.Stages.{stage}
 use Rattle.model.specs.Taking.{judgeEntry, judge}
 use Rattle.model.specs.Decoding.{countersOf, mine}
@@ -17,47 +17,16 @@ use Rattle.model.specs.declared.Counters.{Counters}
 use Rattle.model.specs.declared.Outcome.{Outcome}
 use Rattle.model.specs.declared.Outcome.the-variants.{Refused}
 use Rattle.model.specs.declared.Refusal.the-variants.{WrongLength, Unfit, OutsideAccount, Seen, Gap}
-use Rattle.model.proofs.Tests.{nth}
 use Rattle.model.proofs.Judged.{own-fragment}
 use Rattle.entry.specs.Sequence.{sequenceOf}
 use Rattle.entry.specs.declared.Sequence.the-variants as sequence
 use Rattle.entry.proofs.Sequences.{says}
 use Rattle.lot.specs.Layout.{streamsOf, placesOf}
-use Rattle.lot.specs.View.{holds, viewLot}
-use Rattle.lot.specs.Head.{numbersWith}
 use Rattle.lot.specs.declared.Account as numbers
-use Rattle.lot.proofs.Shown.{StreamsShow, PlacesShow}
 use Rattle.lot.proofs.Lengths.{length-streams, length-places}
-use Rattle.lot.proofs.Views.{holds-shown, holds-well-formed, shown-count}
-use Rattle.lot.proofs.Looked.{looked-held}
-use Rattle.taking.specs.Delivering.{Looked, judgeDue, judgeInside, EntryJudged, Judged}
-
--- ---- the account that is held
-
--- what the numbers n and the sections of the lot l say of it
-pub record Known (l : List ℕ) (n : numbers.Account) (a : Account) : Type 0 where
-  pub numbers-are : n ≡ numbersWith (heldCount a) a
-  pub few : a .fragments ≤ 8
-  pub room : heldCount a ≤ 256
-  pub streams : StreamsShow (streamsOf l) a
-  pub places : PlacesShow (placesOf l) (heldCount a) a
-
-module _ {l : List ℕ} {n : numbers.Account} (k : Looked l n) where
-  pub known : (a : Account) → viewLot l ≡ holds a → Known l n a
-  unfolding accountFits
-  known a v =
-      let w = holds-shown l v in
-      let f = holds-well-formed l v in
-      let c = shown-count (placesOf l) (w .count) a (w .places) in
-      let h = looked-held l (k .seen) in
-      let same : h .account ≡ a = cc in
-      record {
-        numbers-are = h .numbers ∙ rw same;
-        few = leb-true (a .fragments) 8 (nth _ (f .fits) 3);
-        room = f .room;
-        streams = w .streams;
-        places = rw c (w .places);
-      }
+use Rattle.lot.specs.Look.{Looked}
+use Rattle.lot.proofs.Looked.{looked-held, known}
+use Rattle.taking.specs.Delivering.{judgeDue, judgeInside, EntryJudged, Judged}
 
 -- ---- 7 and 8
 

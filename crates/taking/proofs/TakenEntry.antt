@@ -32,10 +32,9 @@ use Rattle.lot.specs.declared.Account as numbers
 use Rattle.lot.proofs.Shown.{StreamsShow, PlacesShow, RecordsShow, head-shown}
 use Rattle.lot.proofs.Lengths.{length-streams}
 use Rattle.lot.proofs.Views.{holds-shown, holds-well-formed, shown-count}
-use Rattle.lot.proofs.Looked.{looked-held}
+use Rattle.lot.proofs.Looked.{looked-held, Known, known}
 use Rattle.writes.proofs.Changes.{sections-hold, head-same, places-same, records-same, counters-shown}
 use Rattle.taking.specs.Delivering.{Due, StreamStepped, HeldIn, oneMore, Taken}
-use Rattle.taking.proofs.Judging.{Known, known}
 
 -- a mark that fits carries an epoch that a mark can carry
 mark-low : (e : Entry) → fits e ≡ true → isMark e ≡ true → e .transaction ≤ LAST-MARK

@@ -4,33 +4,27 @@ use mathlib.Core.Path.{_≡_}
 use mathlib.Core.Bool.{Bool, not, _&&_}
 use mathlib.Core.List.{List}
 use lib.Dec.{leb, eqb}
-use lib.ListN.{length, drop}
+use lib.ListN.{drop}
 use Rattle.model.specs.Lists.{if_then_else_}
 use Rattle.model.specs.Entry.{entryOf, isMark}
 use Rattle.model.specs.Account.{Held, Account, MOST-HELD}
 use Rattle.model.specs.Stages.{stage, takes}
 use Rattle.model.specs.Distance.{distance, belowZero, aboveZero}
-use Rattle.model.specs.Taking.{judgeEntry, judge, stepped, taken}
+use Rattle.model.specs.Taking.{judgeEntry, judge, deliverTo, stepped, taken}
 use Rattle.model.specs.Decoding.{countersOf}
 use Rattle.model.specs.declared.Entry.{Entry}
 use Rattle.model.specs.declared.Counters.{Counters}
 use Rattle.model.specs.declared.Stage.{Stage}
 use Rattle.model.specs.declared.Outcome.{Outcome}
 use Rattle.model.specs.declared.Outcome.the-variants.{Done, Refused}
-use Rattle.model.specs.declared.Refusal.the-variants.{Damaged, NotThisAccount, Seen, Gap, WrongMark, OutOfTurn, Full}
+use Rattle.model.specs.declared.Refusal.the-variants.{Seen, Gap, WrongMark, OutOfTurn, Full}
 use Rattle.places.specs.Places.{EntryHeld}
-use Rattle.lot.specs.Layout.{SIZE, streamsOf, placesOf}
-use Rattle.lot.specs.View.{Lot, free, damaged, holds, viewLot}
+use Rattle.lot.specs.Layout.{streamsOf, placesOf}
+use Rattle.lot.specs.View.{holds, viewLot, accountIn}
 use Rattle.writes.specs.Sections.{WithStreams, WithPlaces}
 use Rattle.lot.specs.Writing.{withCounters}
-use Rattle.lot.specs.Look.{lookOf}
+use Rattle.lot.specs.Look.{Looked}
 use Rattle.lot.specs.declared.Account as numbers
-use Rattle.lot.specs.declared.Look.the-variants.{Holds}
-
--- the lot l has been looked at, and n are the numbers of the account that it holds
-pub record Looked (l : List ℕ) (n : numbers.Account) : Type 0 where
-  pub size : length l ≡ SIZE
-  pub seen : lookOf l ≡ Holds n
 
 -- ---- the judgement, by what its parts look at
 
@@ -85,15 +79,10 @@ Taken l l' bytes = (a : Account) → viewLot l ≡ holds a → viewLot l' ≡ ho
 
 -- ---- 2 and 3, then the judgement; a refusal changes nothing
 
-abbrev pub answerOf : Lot → ℕ → List ℕ → Outcome
-answerOf damaged number bytes = Refused Damaged
-answerOf free number bytes = Refused NotThisAccount
-answerOf (holds a) number bytes = if eqb (a .number) number then judge a bytes else Refused NotThisAccount
-
 abbrev pub Left : List ℕ → List ℕ → List ℕ → Outcome → Type 0
 Left l l' bytes Done = Taken l l' bytes
 Left l l' bytes (Refused r) = l' ≡ l
 
 pub record Delivered (l l' : List ℕ) (number : ℕ) (bytes : List ℕ) (r : Outcome) : Type 0 where
-  pub answer : r ≡ answerOf (viewLot l) number bytes
+  pub answer : r ≡ deliverTo (accountIn (viewLot l) number) bytes
   pub left : Left l l' bytes r
