@@ -8,7 +8,7 @@ use lib.ListN.{length, take, drop}
 use lib.Seq.{take-at}
 use borrow.Author.Tests.{eq-eqb, lt-ltb, le-ltb}
 use Rattle.model.specs.Lists.{if_then_else_}
-use Rattle.model.specs.Account.{Account}
+use Rattle.model.specs.Account.{Account, Named, refused, found}
 use Rattle.model.specs.Image.{image, LONGEST-IMAGE}
 use Rattle.model.specs.declared.Refusal.{Refusal}
 use Rattle.model.specs.declared.Refusal.the-variants.{TooShort}
@@ -18,7 +18,7 @@ use Rattle.lot.specs.Layout.{SIZE}
 use Rattle.lot.specs.View.{holds}
 use Rattle.lot.specs.declared.Account as numbers
 use Rattle.lot.specs.declared.Look.the-variants.{Holds}
-use Rattle.lots.specs.Memory.{lotFits, lotOf, viewOf, Named, refused, found, named}
+use Rattle.lots.specs.Memory.{lotFits, lotOf, viewOf, named}
 use Rattle.lots.specs.Looks.{lookFrom, findingOf}
 use Rattle.lots.specs.declared.Finding.the-variants as finding
 use Rattle.lots.proofs.Parts.{lot-inside}

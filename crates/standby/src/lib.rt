@@ -210,13 +210,13 @@ fn load_answer(memory: &[u8], lots: u32, data: &[u8]) -> Opened
         return Opened::NotOpened(Refusal::NoSuchLot);
     }
     let judged = judging::judge_image(data);
-    let s = lots::survey_lots(memory, lots, number_judged(judged));
-    if s.damaged {
+    let survey = lots::survey_lots(memory, lots, number_judged(judged));
+    if survey.damaged {
         return Opened::NotOpened(Refusal::Damaged);
     }
     match judged {
         Judged::NotAccepted => Opened::NotOpened(Refusal::NotAccepted),
-        Judged::Accepted(_) => lots::place_in(s),
+        Judged::Accepted(_) => lots::place_in(survey),
     }
 }
 
@@ -235,9 +235,9 @@ pub fn load_account(memory: &mut [u8], lots: u32, data: &[u8]) -> Opened
     ensures { λ r. ⌜ AccountLoaded (now (memory .entry)) (now (memory .exit)) lots (now («data» .entry)) r ⌝ }
 {
     match load_answer(memory, lots, data) {
-        Opened::InLot(i) => {
-            load_in(memory, i as usize, data);
-            Opened::InLot(i)
+        Opened::InLot(lot) => {
+            load_in(memory, lot as usize, data);
+            Opened::InLot(lot)
         }
         Opened::NotOpened(r) => Opened::NotOpened(r),
     }

@@ -9,8 +9,8 @@ use Rattle.standby.proofs.load_account.Tie as tie
 load-answer-requires : tie.Need-load-answer-requires
 load-answer-requires c κs = search needs
 
-enum-known-i : tie.Need-enum-known-i
-enum-known-i c = search needs
+enum-known-lot : tie.Need-enum-known-lot
+enum-known-lot c = search needs
 
 cast-load-in : tie.Need-cast-load-in
 cast-load-in c = search needs
@@ -18,7 +18,7 @@ cast-load-in c = search needs
 load-in-requires : tie.Need-load-in-requires
 load-in-requires c κs =
     let s = c .before .before .before .before .before .before .before .before .args in
-    let o = loading (s .memory .now) (s .lots) (s .«data» .now) (c .before .before .before .before .load-answer .ensures) (c .before .before .i .given .1) in
+    let o = loading (s .memory .now) (s .lots) (s .«data» .now) (c .before .before .before .before .load-answer .ensures) (c .before .before .lot .given .1) in
     (o .place .inside, trailer-numbers (s .«data» .now) (λ i. omega (arith, c .before .before .before .before .before .before .shared-slice-known .given i)) (o .shows))
 
 enum-known-r : tie.Need-enum-known-r
@@ -28,7 +28,7 @@ same-length : tie.Need-same-length
 same-length c = search needs
 
 returns : tie.Need-returns
-returns c = record { answer = sym (sym (c .before .before .before .before .before .before .before .load-answer .ensures) ∙ c .before .before .before .before .before .i .given .1); loaded = c .before .before .load-in .ensures }
+returns c = record { answer = sym (sym (c .before .before .before .before .before .before .before .load-answer .ensures) ∙ c .before .before .before .before .before .lot .given .1); loaded = c .before .before .load-in .ensures }
 
 same-length-2 : tie.Need-same-length-2
 same-length-2 c = search needs
@@ -41,7 +41,7 @@ load-account-spec =
     tie.close
     (tie.spec
     load-answer-requires
-    enum-known-i
+    enum-known-lot
     cast-load-in
     load-in-requires
     enum-known-r

@@ -1,5 +1,6 @@
 -- `save_account` meets what it owes. Assumes nothing.
 use mathlib.Core.Path.{sym, _∙_}
+use native.Mathlib.Omega.{arith}
 use Rattle.standby.proofs.Saving.{save-refused, save-short, can-save, account-saved}
 use borrow.Author.Needs.{needs}
 use Rattle.standby.proofs.save_account.Statement.{statement}
@@ -17,12 +18,12 @@ enum-known-a c = search needs
 returns : tie.Need-returns
 returns c =
     let a = c .before .before .before .before .before .before .before .args in
-    save-short (a .memory .now) (a .lots) (a .lot) (a .account) (a .image .now) _ (sym (c .before .before .before .before .find .ensures) ∙ c .before .before .a .given .1) (c .if1 .taken)
+    save-short (a .memory .now) (a .lots) (a .lot) (a .account) (a .image .now) _ (sym (c .before .before .before .before .find .ensures) ∙ c .before .before .a .given .1) (omega arith)
 
 save-in-requires : tie.Need-save-in-requires
 save-in-requires c κs =
     let a = c .before .before .before .before .before .before .before .before .args in
-    can-save (a .memory .now) (a .lots) (a .lot) (a .account) (a .image .now) _ (sym (c .before .before .before .before .before .find .ensures) ∙ c .before .before .before .a .given .1) (c .before .if1 .left)
+    can-save (a .memory .now) (a .lots) (a .lot) (a .account) (a .image .now) _ (sym (c .before .before .before .before .before .find .ensures) ∙ c .before .before .before .a .given .1) (omega arith)
 
 returns-2 : tie.Need-returns-2
 returns-2 c =
@@ -35,7 +36,7 @@ same-length c = search needs
 returns-3 : tie.Need-returns-3
 returns-3 c =
     let a = c .before .before .before .before .before .before .before .before .before .before .before .args in
-    account-saved (a .memory .now) (a .lots) (a .lot) (a .account) (a .image .now) _ (sym (c .before .before .before .before .before .before .before .before .find .ensures) ∙ c .before .before .before .before .before .before .a .given .1) (c .before .before .before .before .if1 .left) (c .before .before .save-in .ensures)
+    account-saved (a .memory .now) (a .lots) (a .lot) (a .account) (a .image .now) _ (sym (c .before .before .before .before .before .before .before .before .find .ensures) ∙ c .before .before .before .before .before .before .a .given .1) (omega arith) (c .before .before .save-in .ensures)
 
 pub save-account-spec : {M : Type 1} → statement M
 save-account-spec =
