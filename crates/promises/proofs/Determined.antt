@@ -23,14 +23,11 @@ use Rattle.lot.specs.View.{viewLot}
 use Rattle.lots.specs.Memory.{memoryFits, lotOf, viewOf}
 use Rattle.lots.proofs.Parts.{memory-long}
 use Rattle.standby.specs.Calls.{startAnswer, Started}
-use Rattle.standby.specs.Images.{loadAnswer, LoadedAs, AccountLoaded}
-use Rattle.standby.proofs.Determined.{SameAfter, SameStart, SameOpen, SameClose, both-become, started-same, opened-same, delivered-same, dropped-same, closed-same}
+use Rattle.standby.proofs.Determined.{SameAfter, SameStart, SameOpen, SameClose, started-same, opened-same, delivered-same, dropped-same, closed-same, saved-same, loaded-same}
 use Rattle.overview.proofs.Answers.{overviewed-same}
 use Rattle.promises.specs.Runs.{Call, Reply, outcome, opened, closed, found, saved, overviewed, replyNumbers, Step, starts, opens, delivers, closes, reads, saves, loads, drops, overviews}
 use Rattle.promises.specs.Written.{isDone, Where, nowhere, in-lot, in-all-lots, writes, Same}
-use Rattle.promises.proofs.Placing.{loaded-placed}
 use Rattle.promises.proofs.Written.{refusal-not-done}
-use Rattle.promises.proofs.Isolation.{saves-same}
 
 idle-same : (s : Refusal) (p : Where) (m₁ m₂ : List ℕ) → m₂ ≡ m₁ → Same (if eqb (refusalNumbers s .number) 0 then p else nowhere) m₁ m₂
 idle-same s p m₁ m₂ e = rw (refusal-not-done s) e
@@ -50,13 +47,6 @@ started-fits {m} {m'} {lots} w = go (memoryFits lots m) (w .answer)
     go : (t : Bool) → Done ≡ (if t then Done else Refused NoSuchLot) → t ≡ true
     go true e = refl
     go false e = no-way cc
-
-loaded-same : {m m₁ m₂ : List ℕ} {lots : ℕ} {given : List ℕ} {r₁ r₂ : Opened} → AccountLoaded m m₁ lots given r₁ → AccountLoaded m m₂ lots given r₂ → (r₂ ≡ r₁) × SameOpen r₁ m₁ m₂
-loaded-same {m} {m₁} {m₂} {lots} {given} {r₁} u w = let e = w .answer ∙ sym (u .answer) in (e, go r₁ (u .answer) (u .loaded) (rw e at (w .loaded)))
-  where
-    go : (r : Opened) → r ≡ loadAnswer m lots given → LoadedAs m m₁ given r → LoadedAs m m₂ given r → SameOpen r m₁ m₂
-    go (InLot i) q u w = let p = loaded-placed m lots given q in both-become (u (p .account) (p .shown)) (w (p .account) (p .shown))
-    go (NotOpened s) q u w = w ∙ sym u
 
 -- ---- the laws of the single calls, by where a call writes
 
@@ -90,7 +80,7 @@ same-steps (opens {m' = m₁} {r = r} u) (opens {m' = m₂} w) = let s = opened-
 same-steps (delivers {m' = m₁} {lot = i} {r = r} u) (delivers {m' = m₂} w) = let s = delivered-same u w in (ap outcome (s .0), by-outcome m₁ m₂ i r (s .1))
 same-steps (closes {m' = m₁} {lot = i} {list' = l} {r = r} u) (closes {m' = m₂} w) = let s = closed-same u w in (rw (s .0, s .2), by-closed m₁ m₂ i r l (s .1))
 same-steps {m} (reads {r = r} u) (reads w) = (ap found (w ∙ sym u), either-same (isDone (found r)) m)
-same-steps {m} (saves {lot = i} {buffer' = b} {r = r} u) (saves w) = (saves-same {lot = i} (record { long = refl; same = refl }) u w, either-same (isDone (saved r b)) m)
+same-steps {m} (saves {buffer' = b} {r = r} u) (saves w) = let s = saved-same u w in (rw (s .0, s .1), either-same (isDone (saved r b)) m)
 same-steps (loads {m' = m₁} {r = r} u) (loads {m' = m₂} w) = let s = loaded-same u w in (ap opened (s .0), by-opened m₁ m₂ r (s .1))
 same-steps (drops {m' = m₁} {lot = i} {r = r} u) (drops {m' = m₂} w) = let s = dropped-same u w in (ap outcome (s .0), by-outcome m₁ m₂ i r (s .1))
 same-steps {m} (overviews {rows' = rows} {r = r} u) (overviews w) = let s = overviewed-same u w in (rw (s .0, s .1), either-same (isDone (overviewed r rows)) m)

@@ -18,26 +18,23 @@ use Rattle.model.specs.Closing.{close, closeFrom}
 use Rattle.model.specs.declared.Refusal.the-variants.{NoSuchLot, NotThisAccount}
 use Rattle.model.specs.declared.Outcome.{Outcome}
 use Rattle.model.specs.declared.Outcome.the-variants.{Done, Refused}
-use Rattle.model.specs.declared.Opened.{Opened}
-use Rattle.model.specs.declared.Opened.the-variants.{InLot, NotOpened}
 use Rattle.model.specs.declared.Closed.{Closed}
 use Rattle.model.specs.declared.Closed.the-variants.{Pieces, NotClosed}
 use Rattle.model.specs.declared.Saved.{Saved}
 use Rattle.model.specs.declared.Saved.the-variants.{Length, NotSaved}
 use Rattle.model.proofs.Tests.{no-way, and-l}
 use Rattle.lot.specs.View.{Lot, free, damaged, holds, viewLot}
-use Rattle.lots.specs.Memory.{memoryFits, lotFits, lotOf, viewOf, Becomes, isFree, named}
+use Rattle.lots.specs.Memory.{memoryFits, lotFits, lotOf, viewOf, named}
 use Rattle.lots.proofs.Named.{holder}
 use Rattle.lots.proofs.Parts.{others-stay}
 use Rattle.standby.specs.Calls.{deliverAnswer, TakenBy, Delivered, readFrom, readAnswer, dropFrom, dropAnswer, Freed, Dropped}
 use Rattle.standby.specs.Closing.{closeAnswer, ClosedAs, EpochClosed}
-use Rattle.standby.specs.Images.{saveFrom, saveAnswer, SavedIn, AccountSaved, loadAnswer, LoadedAs, AccountLoaded}
+use Rattle.standby.specs.Images.{saveFrom, saveAnswer, SavedIn, AccountSaved}
 use Rattle.standby.proofs.Determined.{closed-alike}
-use Rattle.standby.proofs.Isolated.{open-elsewhere}
+use Rattle.standby.proofs.Isolated.{open-elsewhere, load-elsewhere}
 use Rattle.promises.specs.Runs.{Call, drop-account, Reply, outcome, closed, found as found-reply, saved, Step, starts, opens, delivers, closes, reads, saves, loads, drops, overviews, Turn, Run, ends, goes}
 use Rattle.promises.specs.Own.{names, isOwn, isEnd, Kept, ownTurns, callsOf}
 use Rattle.promises.specs.Holding.{Holding, Agree, SameOwnCalls, AnsweredAlike}
-use Rattle.promises.proofs.Placing.{loaded-placed}
 use Rattle.promises.proofs.Written.{length-kept}
 
 -- ---- a call that is not the account's own leaves its lot
@@ -90,16 +87,6 @@ module _ {number lot : ℕ} {m : List ℕ} {a : Account} (h : Holding number lot
       go Done true e u = others-stay (u .0) lot (apart (viewOf m i) refl e)
       go (Refused s) t e u = rw u
 
-  open-leaves : {m' : List ℕ} {i : ℕ} {v : Lot} → isFree (viewOf m i) ≡ true → Becomes i m m' v → lotOf m' lot ≡ lotOf m lot
-  open-leaves q u = others-stay (u .0) lot (λ e. no-way (ap isFree (sym (h .held)) ∙ ap (λ j. isFree (viewOf m j)) e ∙ q))
-
-  load-leaves : {m' : List ℕ} {lots : ℕ} {given : List ℕ} {r : Opened} → AccountLoaded m m' lots given r → lotOf m' lot ≡ lotOf m lot
-  load-leaves {m'} {lots} {given} {r} w = go r (w .answer) (w .loaded)
-    where
-      go : (r : Opened) → r ≡ loadAnswer m lots given → LoadedAs m m' given r → lotOf m' lot ≡ lotOf m lot
-      go (InLot i) e u = let p = loaded-placed m lots given e in open-leaves (p .place .was-free) (u (p .account) (p .shown))
-      go (NotOpened s) e u = rw u
-
   pub other-calls-leave : {m' : List ℕ} {c : Call} {r : Reply} → Step m c r m' → isOwn number lot c ≡ false → isEnd number lot c ≡ false → lotOf m' lot ≡ lotOf m lot
   unfolding isOwn isEnd
   other-calls-leave (starts w) o e = no-way (sym e)
@@ -108,7 +95,7 @@ module _ {number lot : ℕ} {m : List ℕ} {a : Account} (h : Holding number lot
   other-calls-leave (closes w) o e = close-leaves w o
   other-calls-leave (reads w) o e = refl
   other-calls-leave (saves w) o e = refl
-  other-calls-leave (loads w) o e = load-leaves w
+  other-calls-leave (loads w) o e = load-elsewhere lot w (h .held)
   other-calls-leave (drops w) o e = drop-leaves w e
   other-calls-leave (overviews w) o e = refl
 
@@ -147,7 +134,7 @@ module _ {lot : ℕ} {m₁ m₂ : List ℕ} (g : Agree lot m₁ m₂) where
       long-after (Pieces count) u w = w .0 .long ∙ g .long ∙ sym (u .0 .long)
       long-after (NotClosed s) u w = rw (w .0, u .0) (g .long)
 
-  pub saves-same : {lots n : ℕ} {buffer buffer₁ buffer₂ : List ℕ} {r₁ r₂ : Saved}
+  saves-same : {lots n : ℕ} {buffer buffer₁ buffer₂ : List ℕ} {r₁ r₂ : Saved}
       → AccountSaved m₁ lots lot n buffer buffer₁ r₁ → AccountSaved m₂ lots lot n buffer buffer₂ r₂ → saved r₂ buffer₂ ≡ saved r₁ buffer₁
   unfolding saveAnswer
   saves-same {lots} {n} {buffer} {buffer₁} {buffer₂} {r₁} {r₂} u w =

@@ -31,7 +31,7 @@ Alike i m₁ m₂ = Becomes i m₁ m₂ (viewOf m₁ i)
 alike : {i : ℕ} {m m₁ m₂ : List ℕ} → OnlyLot i m m₁ → OnlyLot i m m₂ → viewOf m₂ i ≡ viewOf m₁ i → Alike i m₁ m₂
 alike u w v = (record { long = w .long ∙ sym (u .long); before = w .before ∙ sym (u .before); behind = w .behind ∙ sym (u .behind) }, v)
 
-pub both-become : {i : ℕ} {m m₁ m₂ : List ℕ} {v : Lot} → Becomes i m m₁ v → Becomes i m m₂ v → Alike i m₁ m₂
+both-become : {i : ℕ} {m m₁ m₂ : List ℕ} {v : Lot} → Becomes i m m₁ v → Becomes i m m₂ v → Alike i m₁ m₂
 both-become u w = alike (u .0) (w .0) (w .1 ∙ sym (u .1))
 
 -- two memories after calls that name a lot, by the answer: a refusal leaves what was there
