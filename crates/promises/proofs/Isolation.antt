@@ -1,11 +1,11 @@
 -- Demand 1, isolation: what calls for other accounts do never reaches an open account in its undamaged lot. Assumes nothing.
 -- The account has a number and a lot. Its own calls name both: deliver, close, read, save, and drop, which may end it. Start is a call for all accounts, and may end it too.
 -- Every other call counts as one for another account: whichever call names another lot, or this lot with another number; open and load of any account, this one among them (13); the overview; with any lot count.
--- Calls that may end it stand at the ends of the runs compared: where drop is refused, or start, nothing has changed (`refusal-changes-nothing`), and the runs go on from memories that agree.
+-- Between the own calls of the runs compared there may also be starts and own drops that are refused: they change nothing. One that is done ends the account, and stands at the end of the runs.
 use Prim.Native.Nat.{ℕ}
 use mathlib.Core.Path.{_≡_, refl, sym, ap, _∙_}
 use mathlib.Core.Logic.{_≢_}
-use mathlib.Core.Bool.{Bool, true, false, not}
+use mathlib.Core.Bool.{Bool, true, false, not, _&&_}
 use mathlib.Core.List.{List, [], _∷_}
 use lib.Dec.{eqb}
 use lib.ListN.{length}
@@ -34,8 +34,9 @@ use Rattle.standby.proofs.Determined.{closed-alike}
 use Rattle.standby.proofs.Isolated.{open-elsewhere, load-elsewhere}
 use Rattle.promises.specs.Runs.{Call, drop-account, Reply, outcome, closed, found as found-reply, saved, Step, starts, opens, delivers, closes, reads, saves, loads, drops, overviews, Turn, Run, ends, goes}
 use Rattle.promises.specs.Own.{names, isOwn, isEnd, Kept, ownTurns, callsOf}
+use Rattle.promises.specs.Written.{isDone}
 use Rattle.promises.specs.Holding.{Holding, Agree, SameOwnCalls, AnsweredAlike}
-use Rattle.promises.proofs.Written.{length-kept}
+use Rattle.promises.proofs.Written.{length-kept, refusal-changes-nothing}
 
 -- ---- a call that is not the account's own leaves its lot
 
@@ -87,17 +88,25 @@ module _ {number lot : ℕ} {m : List ℕ} {a : Account} (h : Holding number lot
       go Done true e u = others-stay (u .0) lot (apart (viewOf m i) refl e)
       go (Refused s) t e u = rw u
 
-  pub other-calls-leave : {m' : List ℕ} {c : Call} {r : Reply} → Step m c r m' → isOwn number lot c ≡ false → isEnd number lot c ≡ false → lotOf m' lot ≡ lotOf m lot
+  unending-leaves : {m' : List ℕ} {c : Call} {r : Reply} → Step m c r m' → isOwn number lot c ≡ false → isEnd number lot c ≡ false → lotOf m' lot ≡ lotOf m lot
   unfolding isOwn isEnd
-  other-calls-leave (starts w) o e = no-way (sym e)
-  other-calls-leave (opens w) o e = open-elsewhere lot w (h .held)
-  other-calls-leave (delivers w) o e = deliver-leaves w o
-  other-calls-leave (closes w) o e = close-leaves w o
-  other-calls-leave (reads w) o e = refl
-  other-calls-leave (saves w) o e = refl
-  other-calls-leave (loads w) o e = load-elsewhere lot w (h .held)
-  other-calls-leave (drops w) o e = drop-leaves w e
-  other-calls-leave (overviews w) o e = refl
+  unending-leaves (starts w) o e = no-way (sym e)
+  unending-leaves (opens w) o e = open-elsewhere lot w (h .held)
+  unending-leaves (delivers w) o e = deliver-leaves w o
+  unending-leaves (closes w) o e = close-leaves w o
+  unending-leaves (reads w) o e = refl
+  unending-leaves (saves w) o e = refl
+  unending-leaves (loads w) o e = load-elsewhere lot w (h .held)
+  unending-leaves (drops w) o e = drop-leaves w e
+  unending-leaves (overviews w) o e = refl
+
+  pub other-calls-leave : {m' : List ℕ} {c : Call} {r : Reply} → Step m c r m' → isOwn number lot c ≡ false → (isEnd number lot c && isDone r) ≡ false → lotOf m' lot ≡ lotOf m lot
+  other-calls-leave {m'} {c} {r} w o e = go (isEnd number lot c) (isDone r) refl refl e
+    where
+      go : (b d : Bool) → isEnd number lot c ≡ b → isDone r ≡ d → (b && d) ≡ false → lotOf m' lot ≡ lotOf m lot
+      go false d p q e = unending-leaves w o p
+      go true true p q e = no-way (sym e)
+      go true false p q e = rw (refusal-changes-nothing w q .0)
 
 -- ---- a call that names this lot is answered by what the lot means, and by how long the memory is
 
@@ -216,7 +225,7 @@ module _ (number lot : ℕ) where
   later p (rests q) = rests (agrees p q)
   later p (turns q o w s) = turns (agrees p q) o w s
 
-  other-agrees : {m m' : List ℕ} {c : Call} {r : Reply} {a : Account} → Holding number lot m a → Step m c r m' → isOwn number lot c ≡ false → isEnd number lot c ≡ false → Agree lot m m'
+  other-agrees : {m m' : List ℕ} {c : Call} {r : Reply} {a : Account} → Holding number lot m a → Step m c r m' → isOwn number lot c ≡ false → (isEnd number lot c && isDone r) ≡ false → Agree lot m m'
   unfolding viewOf
   other-agrees h w o e = record { long = length-kept w; same = ap viewLot (other-calls-leave h w o e) }
 

@@ -19,7 +19,7 @@ pub record Agree (lot : ℕ) (m₁ m₂ : List ℕ) : Type 0 where
   pub long : length m₂ ≡ length m₁
   pub same : viewOf m₂ lot ≡ viewOf m₁ lot
 
--- two runs, from memories that agree on this lot: there the account with this number is open, no call of either ends it, and its own calls are the same, in the same order
+-- two runs, from memories that agree on this lot: there the account with this number is open, no call that is done in either ends it, and its own calls are the same, in the same order
 pub record SameOwnCalls (number lot : ℕ) (m₁ m₂ : List ℕ) (ts₁ ts₂ : List Turn) : Type 0 where
   pub account : Account
   pub open-there : Holding number lot m₁ account

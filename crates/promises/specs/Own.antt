@@ -13,6 +13,7 @@ use Rattle.model.specs.declared.Outcome.the-variants.{Done, Refused}
 use Rattle.model.specs.declared.Closed.{Closed}
 use Rattle.model.specs.declared.Closed.the-variants.{Pieces, NotClosed}
 use Rattle.promises.specs.Runs.{Call, start, open-account, deliver, close-epoch, read-record, save-account, load-account, drop-account, overview, Reply, outcome, opened, closed, found, saved, overviewed, Turn}
+use Rattle.promises.specs.Written.{isDone}
 
 -- ---- what a reply says was done
 
@@ -84,7 +85,7 @@ module _ (number lot : ℕ) where
   isOwn (drop-account lots i n) = false
   isOwn (overview lots rows) = false
 
-  -- the call ends the account there: a fresh start, and its drop
+  -- the call, where it is done, ends the account there: a fresh start, and its drop
   unfoldable pub isEnd : Call → Bool
   isEnd (start lots) = true
   isEnd (open-account lots n f k) = false
@@ -96,10 +97,10 @@ module _ (number lot : ℕ) where
   isEnd (drop-account lots i n) = names i n
   isEnd (overview lots rows) = false
 
-  -- no such call in a run
+  -- no such call is done in a run
   unfoldable pub Kept : List Turn → Type 0
   Kept [] = Unit {0}
-  Kept (t ∷ ts) = (isEnd (t .call) ≡ false) × Kept ts
+  Kept (t ∷ ts) = ((isEnd (t .call) && isDone (t .reply)) ≡ false) × Kept ts
 
   -- the account's own turns of a run
   unfoldable pub ownTurns : List Turn → List Turn
