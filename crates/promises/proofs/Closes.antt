@@ -9,7 +9,7 @@ use lib.ListN.{length, drop}
 use lib.Seq.{drop-at}
 use Rattle.model.specs.Lists.{if_then_else_}
 use Rattle.model.specs.Account.{Account, Named, refused, found}
-use Rattle.model.specs.Closing.{Piece, judgeClose, close, listed, pairs, LEAST-LIST, judgeRoom, closeJudged, closeOf, closeFrom}
+use Rattle.model.specs.Closing.{Piece, judgeClose, close, listed, closeFrom, pairs, LEAST-LIST, judgeRoom, closeJudged, closeOf}
 use Rattle.model.specs.declared.Outcome.{Outcome}
 use Rattle.model.specs.declared.Outcome.the-variants.{Done, Refused}
 use Rattle.model.specs.declared.Refusal.the-variants.{TooShort}

@@ -142,7 +142,7 @@ module _ (number lot : ℕ) (c : Call) (r : Reply) {ts : List Turn} {a : Account
   unfolding ownTurns
   other-turn o w = record { held = rw o (w .held); allowed = rw o (w .allowed); listed = rw o (w .listed) }
 
--- a run from any memory whose lot holds the account, in which no call starts afresh or drops it there
+-- a run from any memory whose lot holds the account, in which no start and no drop of it there is done
 pub followed : {m m' : List ℕ} {number lot : ℕ} {ts : List Turn} {a : Account} → Holding number lot m a → Run m ts m' → Kept number lot ts → Followed number lot ts a m'
 unfolding Kept ownTurns stepsOf listsOf run lists Allowed viewOf
 followed h ends k = record { held = h .held; allowed = tt; listed = refl }

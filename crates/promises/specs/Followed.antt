@@ -40,7 +40,7 @@ pub record Followed (number lot : ℕ) (ts : List Turn) (a : Account) (m' : List
 
 -- ---- a run that opens the account
 
--- the first call opens the account with f fragments and k keys, and is answered this lot; in the rest no call starts afresh or drops the account there
+-- the first call opens the account with f fragments and k keys, and is answered this lot; in the rest no start and no drop of the account there is done
 pub record OpenedRun (number f k lot : ℕ) (rest : List Turn) (m' : List ℕ) : Type 0 where
   pub m : List ℕ
   pub lots : ℕ

@@ -29,7 +29,7 @@ pub record RecordOf (a : Account) (i k : ℕ) (x : Record) : Type 0 where
 
 -- ---- load, then save
 
--- since these data were loaded into lot i: the account that they show has this number, and in the run since no call started afresh or dropped it there, none of its entries was accepted and no epoch closed
+-- since these data were loaded into lot i: the account that they show has this number, and in the run since no start and no drop of it there was done, none of its entries was accepted and no epoch closed
 pub record KeptSinceLoad (number i : ℕ) (given m' : List ℕ) (ts : List Turn) (m₂ : List ℕ) : Type 0 where
   pub numbered : (a : Account) → load given ≡ some a → a .number ≡ number
   pub runs : Run m' ts m₂
