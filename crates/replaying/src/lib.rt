@@ -15,25 +15,7 @@ use model::Refusal;
 fn number_of(refusal: Refusal) -> u64
     ensures { λ r. ⌜ r ≡ numberOf refusal ⌝ }
 {
-    match refusal {
-        Refusal::NoSuchLot => 1,
-        Refusal::Damaged => 2,
-        Refusal::NotThisAccount => 3,
-        Refusal::WrongLength => 4,
-        Refusal::Unfit => 5,
-        Refusal::OutsideAccount => 6,
-        Refusal::Seen => 7,
-        Refusal::Gap => 8,
-        Refusal::WrongMark => 9,
-        Refusal::OutOfTurn => 10,
-        Refusal::Full => 11,
-        Refusal::MarkMissing { streams: _, how_many: _ } => 12,
-        Refusal::AlreadyOpen => 13,
-        Refusal::NoFreeLot => 14,
-        Refusal::UnfitAccount => 15,
-        Refusal::TooShort => 16,
-        Refusal::NotAccepted => 17,
-    }
+    answers::refusal_numbers(refusal).number as u64
 }
 
 // ---- the header

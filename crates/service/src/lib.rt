@@ -32,25 +32,8 @@ fn pack(number: u32, first: u32, second: u32) -> u64
 fn of_refusal(refusal: Refusal) -> u64
     ensures { λ r. ⌜ r ≡ packed (refusalNumbers refusal) ⌝ }
 {
-    match refusal {
-        Refusal::NoSuchLot => 1,
-        Refusal::Damaged => 2,
-        Refusal::NotThisAccount => 3,
-        Refusal::WrongLength => 4,
-        Refusal::Unfit => 5,
-        Refusal::OutsideAccount => 6,
-        Refusal::Seen => 7,
-        Refusal::Gap => 8,
-        Refusal::WrongMark => 9,
-        Refusal::OutOfTurn => 10,
-        Refusal::Full => 11,
-        Refusal::MarkMissing { streams, how_many } => pack(12, streams as u32, how_many as u32),
-        Refusal::AlreadyOpen => 13,
-        Refusal::NoFreeLot => 14,
-        Refusal::UnfitAccount => 15,
-        Refusal::TooShort => 16,
-        Refusal::NotAccepted => 17,
-    }
+    let n = answers::refusal_numbers(refusal);
+    pack(n.number, n.first, n.second)
 }
 
 fn of_outcome(outcome: Outcome) -> u64

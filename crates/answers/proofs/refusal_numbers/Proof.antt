@@ -1,7 +1,7 @@
--- The number of each refusal. Assumes nothing.
+-- `refusal_numbers` answers the numbers of each refusal. Assumes nothing.
 use borrow.Author.Needs.{needs}
-use Rattle.replaying.proofs.number_of.Statement.{statement}
-use Rattle.replaying.proofs.number_of.Tie as tie
+use Rattle.answers.proofs.refusal_numbers.Statement.{statement}
+use Rattle.answers.proofs.refusal_numbers.Tie as tie
 
 enum-told : tie.Need-enum-told
 enum-told c = search needs
@@ -36,6 +36,15 @@ enum-told-10 c = search needs
 enum-told-11 : tie.Need-enum-told-11
 enum-told-11 c = search needs
 
+enum-known-refusal : tie.Need-enum-known-refusal
+enum-known-refusal c = search needs
+
+cast-t5 : tie.Need-cast-t5
+cast-t5 c = search needs
+
+cast-t6 : tie.Need-cast-t6
+cast-t6 c = search needs
+
 enum-told-12 : tie.Need-enum-told-12
 enum-told-12 c = search needs
 
@@ -50,9 +59,6 @@ enum-told-15 c = search needs
 
 enum-told-16 : tie.Need-enum-told-16
 enum-told-16 c = search needs
-
-enum-told-17 : tie.Need-enum-told-17
-enum-told-17 c = search needs
 
 returns : tie.Need-returns
 returns c = rw (c .enum-told .given .1)
@@ -88,25 +94,25 @@ returns-11 : tie.Need-returns-11
 returns-11 c = rw (c .enum-told11 .given .1)
 
 returns-12 : tie.Need-returns-12
-returns-12 c = rw (c .enum-told12 .given .1)
+returns-12 c = rw (c .before .refusal .given .1)
 
 returns-13 : tie.Need-returns-13
-returns-13 c = rw (c .enum-told13 .given .1)
+returns-13 c = rw (c .enum-told12 .given .1)
 
 returns-14 : tie.Need-returns-14
-returns-14 c = rw (c .enum-told14 .given .1)
+returns-14 c = rw (c .enum-told13 .given .1)
 
 returns-15 : tie.Need-returns-15
-returns-15 c = rw (c .enum-told15 .given .1)
+returns-15 c = rw (c .enum-told14 .given .1)
 
 returns-16 : tie.Need-returns-16
-returns-16 c = rw (c .enum-told16 .given .1)
+returns-16 c = rw (c .enum-told15 .given .1)
 
 returns-17 : tie.Need-returns-17
-returns-17 c = rw (c .enum-told17 .given .1)
+returns-17 c = rw (c .enum-told16 .given .1)
 
-pub number-of-spec : {M : Type 1} → statement M
-number-of-spec =
+pub refusal-numbers-spec : {M : Type 1} → statement M
+refusal-numbers-spec =
     tie.close
     (tie.spec
     enum-told
@@ -120,12 +126,14 @@ number-of-spec =
     enum-told-9
     enum-told-10
     enum-told-11
+    enum-known-refusal
+    cast-t5
+    cast-t6
     enum-told-12
     enum-told-13
     enum-told-14
     enum-told-15
     enum-told-16
-    enum-told-17
     returns
     returns-2
     returns-3
