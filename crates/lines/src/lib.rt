@@ -1,5 +1,5 @@
 // The lines that the program of docs/RULES.md prints, written as text into a lent buffer.
-// specs/Lines.antt has each line, and specs/Text.antt what it means that a text is written.
+// specs/Lines.antt has each line, and specs/Text.antt what it means that a text is written. It stands on `model`.
 ghost use mathlib.Core.Path.{_≡_};
 ghost use mathlib.Core.List.{[], _∷_};
 ghost use Prim.Native.Nat.{_+_, _≤_};

@@ -1,5 +1,5 @@
 // The program of docs/RULES.md: reads one account from standard input (account 2 bytes, f 1, k 1, then entries), closes while it
-// can after each taken entry, and prints what happened and what is there at the end.
+// can after each taken entry, and prints what happened and what is there at the end. It stands on `replaying`.
 use libc::STDIN_FILENO;
 use libc::STDOUT_FILENO;
 

@@ -1,5 +1,5 @@
 // The program of docs/RULES.md but for its reading and writing: each call on its one lot of lent memory, and the lines that
-// tell what happened, written into a lent buffer. specs/Replaying.antt has what each function owes.
+// tell what happened, written into a lent buffer. specs/Replaying.antt has what each function owes. It stands on `standby`, `overview` and `lines`.
 ghost use mathlib.Core.Path.{_≡_};
 ghost use Prim.Native.Nat.{_+_, _*_, _≤_};
 ghost use Rattle.lines.specs.Text.{Wrote, ROOM};

@@ -1,5 +1,6 @@
 // The functions for C, as include/standby.h declares them: each calls the standby, and answers one number that packs the
 // numbers of its answer. A lent slice is a pointer and a length. Lists cross as bytes (specs/Crossing.antt).
+// It stands on `standby` and `overview`, whose contracts each function keeps.
 ghost use mathlib.Core.Path.{_≡_};
 ghost use Prim.Native.Nat.{_+_, _*_, _≤_};
 ghost use lib.ListN.{length, take};

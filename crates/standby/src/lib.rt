@@ -124,7 +124,7 @@ fn close_in(memory: &mut [u8], lot: usize, account: u32, list: &mut [u32]) -> Cl
     closing::close_lot(&mut memory[a..e], account, list)
 }
 
-// The desk lends a list with room for 512 numbers, and the call writes the pairs of the pieces.
+// The caller lends a list with room for 512 numbers, and the call writes the pairs of the pieces.
 pub fn close_epoch(memory: &mut [u8], lots: u32, lot: u32, account: u32, list: &mut [u32]) -> Closed
     ensures { λ r. ⌜ EpochClosed (now (memory .entry)) (now (memory .exit)) lots lot account (now (list .entry)) (now (list .exit)) r ⌝ }
 {
@@ -176,7 +176,7 @@ fn save_in(memory: &[u8], lot: usize, account: lot::Account, image: &mut [u8]) -
     image::save_lot(&memory[a..e], account, image)
 }
 
-// The desk lends a buffer with room for the longest image.
+// The caller lends a buffer with room for the longest image.
 pub fn save_account(memory: &[u8], lots: u32, lot: u32, account: u32, image: &mut [u8]) -> Saved
     ensures { λ r. ⌜ AccountSaved (now (memory .entry)) lots lot account (now (image .entry)) (now (image .exit)) r ⌝ }
 {

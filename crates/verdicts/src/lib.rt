@@ -136,7 +136,7 @@ fn deciders(held: &[u8], last: &[u16; 256], n: usize, epoch: u32) -> [u16; 257]
 
 // ---- all verdicts
 
-// The verdict of the place before m, those after it being known.
+// The verdict of place i, those of the places after it being known.
 fn number_of(
     held: &[u8],
     last: &[u16; 256],
@@ -161,7 +161,7 @@ fn number_of(
     numbers[m - 1]
 }
 
-// The verdicts of n places, in time linear in n.
+// The verdicts of n places, in two passes back over them; a coordinator's CC is looked for along the chains.
 pub fn verdicts(held: &[u8], last: &[u16; 256], n: usize, epoch: u32) -> [u8; 256]
     requires { ⌜ (n ≤ 256) × (n * 20 ≤ length (now held)) × Orderly (now held) n × Lasts (now last) (now held) n ⌝ }
     ensures { λ r. ⌜ Verdicts r (now (held .entry)) n epoch ⌝ }
