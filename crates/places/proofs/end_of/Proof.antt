@@ -1,3 +1,4 @@
+-- `end_of` keeps the last place so far whose stream is not above the fragment. Assumes nothing.
 use Prim.Native.Nat.{_≤_, _-_}
 use mathlib.Core.Path.{_≡_}
 use mathlib.Core.Logic.{⊎-elim}

@@ -1,3 +1,4 @@
+-- `hold_entry` puts the entry, as it is held, at the end of its stream's entries. Assumes nothing.
 use native.Mathlib.Omega.{arith}
 use borrow.Author.Needs.{needs}
 use Rattle.places.proofs.Placed.{hold-is}

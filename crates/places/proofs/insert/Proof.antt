@@ -1,3 +1,4 @@
+-- `insert` makes room for a place, and puts it in. Assumes nothing.
 use native.Mathlib.Omega.{arith}
 use borrow.Author.Needs.{needs}
 use Rattle.places.proofs.Moves.{insert-is}

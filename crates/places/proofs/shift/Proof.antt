@@ -1,3 +1,4 @@
+-- `shift` moves the bytes on by one place, the last first, so that none is lost. Assumes nothing.
 use Prim.Native.Nat.{_≤_, _-_}
 use mathlib.Core.Path.{_≡_, refl}
 use native.Mathlib.Omega.{arith}

@@ -1,3 +1,4 @@
+-- `get16` answers the number of two bytes, the lowest first. Assumes nothing.
 use borrow.Author.Needs.{needs}
 use Rattle.wire.specs.Numbers.{number16}
 use Rattle.wire.proofs.get16.Statement.{statement}

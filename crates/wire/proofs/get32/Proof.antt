@@ -1,3 +1,4 @@
+-- `get32` answers the number of four bytes, the lowest first. Assumes nothing.
 use borrow.Author.Needs.{needs}
 use Rattle.wire.specs.Numbers.{number32}
 use Rattle.wire.proofs.get32.Statement.{statement}

@@ -1,3 +1,4 @@
+-- `put16` writes the two bytes of a number, the lowest first, and no other. Assumes nothing.
 use borrow.Author.Needs.{needs}
 use native.Mathlib.Omega.{arith}
 use lib.ListN.{length-set}
