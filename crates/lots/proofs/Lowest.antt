@@ -6,14 +6,9 @@ use native.Mathlib.Omega.{arith}
 use native.Mathlib.Decide.{decLt}
 use Rattle.model.specs.Lists.{if_then_else_}
 use Rattle.model.proofs.Tests.{no-way}
-use Rattle.lots.specs.Memory.{someBelow, lowestBelow}
+use Rattle.lots.specs.Memory.{someBelow, lowestBelow, Lowest}
 
 module _ (p : ℕ → Bool) where
-  pub record Lowest (n i : ℕ) : Type 0 where
-    pub below : i < n
-    pub passes : p i ≡ true
-    pub first : (j : ℕ) → j < i → p j ≡ false
-
   pub none-below : (n : ℕ) → someBelow p n ≡ false → (j : ℕ) → j < n → p j ≡ false
   unfolding someBelow
   none-below zero e j h = absurd (omega arith)
@@ -38,11 +33,11 @@ module _ (p : ℕ → Bool) where
       go (yes l) ih = rw (ih l e)
       go (no l) ih = let w : n ≡ j = omega arith in rw (w, e, or-true)
 
-  pub lowest : (n : ℕ) → someBelow p n ≡ true → Lowest n (lowestBelow p n)
+  pub lowest : (n : ℕ) → someBelow p n ≡ true → Lowest p n (lowestBelow p n)
   unfolding someBelow lowestBelow
   lowest zero e = no-way e
   lowest (suc n) e = go (someBelow p n) refl e (lowest n)
     where
-      go : (b : Bool) → someBelow p n ≡ b → (b || p n) ≡ true → (someBelow p n ≡ true → Lowest n (lowestBelow p n)) → Lowest (suc n) (if b then lowestBelow p n else n)
+      go : (b : Bool) → someBelow p n ≡ b → (b || p n) ≡ true → (someBelow p n ≡ true → Lowest p n (lowestBelow p n)) → Lowest p (suc n) (if b then lowestBelow p n else n)
       go true x z ih = let w = ih x in record { below = omega arith; passes = w .passes; first = w .first }
       go false x z ih = record { below = omega arith; passes = z; first = none-below n x }

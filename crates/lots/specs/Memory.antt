@@ -1,5 +1,5 @@
 -- Lots in lent memory, and what a call finds there.
-use Prim.Native.Nat.{ℕ, zero, suc, _+_, _*_}
+use Prim.Native.Nat.{ℕ, zero, suc, _+_, _*_, _<_}
 use mathlib.Core.Path.{_≡_}
 use mathlib.Core.Bool.{Bool, true, false, not, _&&_, _||_}
 use mathlib.Core.List.{List, [], _∷_}
@@ -69,3 +69,9 @@ someBelow p (suc n) = someBelow p n || p n
 unfoldable pub lowestBelow : (ℕ → Bool) → ℕ → ℕ
 lowestBelow p zero = 0
 lowestBelow p (suc n) = if someBelow p n then lowestBelow p n else n
+
+-- i is the lowest number below n that passes
+pub record Lowest (p : ℕ → Bool) (n i : ℕ) : Type 0 where
+  pub below : i < n
+  pub passes : p i ≡ true
+  pub first : (j : ℕ) → j < i → p j ≡ false

@@ -10,10 +10,25 @@ use Rattle.model.specs.Distance.{distance, belowZero, aboveZero, after}
 use Rattle.model.specs.Account.{Held, Fragment, Account, heldCount, MOST-HELD, Named, refused, found}
 use Rattle.model.specs.Stages.{stage, takes}
 use Rattle.model.specs.declared.Entry.{Entry}
+use Rattle.model.specs.declared.Stage.{Stage}
 use Rattle.model.specs.declared.Counters.{Counters}
 use Rattle.model.specs.declared.Outcome.{Outcome}
 use Rattle.model.specs.declared.Outcome.the-variants.{Done, Refused}
 use Rattle.model.specs.declared.Refusal.the-variants.{WrongLength, Unfit, OutsideAccount, Seen, Gap, WrongMark, OutOfTurn, Full}
+
+-- ---- 9, 10 and 11
+
+-- the mark isn't the stream's open epoch
+abbrev pub wrongMark : ℕ → Entry → Bool
+wrongMark epoch e = isMark e && not (eqb (e .transaction) epoch)
+
+-- the table doesn't take it, where its transaction is at this stage in this stream
+abbrev pub notTaken : Stage → Entry → Bool
+notTaken s e = not (isMark e) && not (takes (e .kind) s)
+
+-- so many entries are held; a mark occupies no place
+abbrev pub full : ℕ → Entry → Bool
+full n e = not (isMark e) && leb MOST-HELD n
 
 -- ---- the judgement, a line for each refusal, in its order
 
@@ -25,9 +40,9 @@ judgeEntry a e =
     else if not (inside (a .fragments) (a .keys) e) then Refused OutsideAccount
     else if belowZero d then Refused Seen
     else if aboveZero d then Refused Gap
-    else if isMark e && not (eqb (e .transaction) (s .counters .epoch)) then Refused WrongMark
-    else if not (isMark e) && not (takes (e .kind) (stage (e .transaction) (s .held))) then Refused OutOfTurn
-    else if not (isMark e) && leb MOST-HELD (heldCount a) then Refused Full
+    else if wrongMark (s .counters .epoch) e then Refused WrongMark
+    else if notTaken (stage (e .transaction) (s .held)) e then Refused OutOfTurn
+    else if full (heldCount a) e then Refused Full
     else Done
 
 unfoldable pub judge : Account → List ℕ → Outcome

@@ -10,8 +10,9 @@ use borrow.Author.Tests.{eq-eqb}
 use Rattle.model.specs.Lists.{if_then_else_, any, countBelow, bitsOf}
 use Rattle.model.specs.Entry.{LENGTH, entryOf, fits, inside}
 use Rattle.model.specs.Distance.{belowZero, aboveZero}
-use Rattle.model.specs.Account.{Record, absent, present, Account, accountFits, Named, refused, found}
-use Rattle.model.specs.Taking.{judgeEntry, judge, deliverTo}
+use Rattle.model.specs.Account.{Record, absent, present, Account, accountFits, heldCount, Named, refused, found}
+use Rattle.model.specs.Stages.{stage}
+use Rattle.model.specs.Taking.{wrongMark, notTaken, full, judgeEntry, judge, deliverTo}
 use Rattle.model.specs.Closing.{missing, judgeClose, listed, LEAST-LIST, judgeRoom, closeJudged, closeOf, closeFrom}
 use Rattle.model.specs.Image.{image, LONGEST-IMAGE}
 use Rattle.model.specs.Decoding.{load}
@@ -36,7 +37,7 @@ use Rattle.standby.specs.Images.{saveFrom, saveAnswer, loadFrom, loadAnswer}
 use Rattle.overview.specs.Overview.{overviewAnswer}
 use Rattle.promises.specs.Runs.{Call, start, open-account, deliver, close-epoch, read-record, save-account, load-account, drop-account, overview, Reply, outcome, opened, closed, found as found-reply, saved, overviewed, replyNumbers, Step, starts, opens, delivers, closes, reads, saves, loads, drops, overviews}
 use Rattle.promises.specs.Written.{isDone}
-use Rattle.promises.specs.Answers.{order, Known, answerOf, Condition, _when_, isNone, ofShown, freeOrOther, alreadyOpen, no-free-lot, notFound, received, wrongMark, notTaken, full, entryConditions, closeConditions, outside, conditions, firstMet}
+use Rattle.promises.specs.Answers.{order, Known, answerOf, Condition, _when_, isNone, ofShown, freeOrOther, alreadyOpen, no-free-lot, notFound, received, entryConditions, closeConditions, outside, conditions, firstMet}
 
 -- ---- the reply's numbers are those of the contract
 
@@ -112,7 +113,7 @@ judged : (a : Account) (bytes : List ℕ) → of-outcome (judge a bytes) ≡ fir
 unfolding judge judgeEntry firstMet
 judged a bytes =
     let e = entryOf bytes in
-    go (not (eqb (length bytes) LENGTH)) (not (fits e)) (not (inside (a .fragments) (a .keys) e)) (belowZero (received a e)) (aboveZero (received a e)) (wrongMark a e) (notTaken a e) (full a e)
+    go (not (eqb (length bytes) LENGTH)) (not (fits e)) (not (inside (a .fragments) (a .keys) e)) (belowZero (received a e)) (aboveZero (received a e)) (wrongMark (a .at (e .fragment) .counters .epoch) e) (notTaken (stage (e .transaction) (a .at (e .fragment) .held)) e) (full (heldCount a) e)
   where
     go : (c4 c5 c6 c7 c8 c9 c10 c11 : Bool)
         → of-outcome (

@@ -14,7 +14,8 @@ use Rattle.lot.specs.View.{holds}
 use Rattle.lots.specs.Memory.{lotFits, viewOf}
 use Rattle.standby.specs.Images.{AccountSaved, AccountLoaded}
 use Rattle.standby.proofs.Saving.{saving}
-use Rattle.standby.proofs.RoundTrips.{SaveCall, LoadCall, EndsWith, first-bytes, RoomFor, LoadedBack, saved-image-loads, SavedBack, accepted-image-saves}
+use Rattle.standby.specs.RoundTrips.{SaveCall, LoadCall, EndsWith, RoomFor, LoadedBack, SavedBack}
+use Rattle.standby.proofs.RoundTrips.{first-bytes, saved-image-loads, accepted-image-saves}
 use Rattle.promises.specs.Runs.{save-account, load-account, saved, opened, Step, saves, loads, Turn, Run}
 use Rattle.promises.specs.Own.{Kept}
 use Rattle.promises.specs.Followed.{SameAccepted}

@@ -4,14 +4,15 @@ use mathlib.Core.Path.{_≡_}
 use mathlib.Core.Bool.{Bool, true, false, not, _&&_}
 use mathlib.Core.Option.{Option, some, none}
 use mathlib.Core.List.{List, [], _∷_}
-use lib.Dec.{leb, ltb, eqb}
+use lib.Dec.{ltb, eqb}
 use lib.ListN.{length}
-use Rattle.model.specs.Lists.{if_then_else_, any, countBelow}
-use Rattle.model.specs.Entry.{LENGTH, entryOf, isMark, fits, inside}
 use lib.IntN.{ℤ}
+use Rattle.model.specs.Lists.{if_then_else_, any, countBelow}
+use Rattle.model.specs.Entry.{LENGTH, entryOf, fits, inside}
 use Rattle.model.specs.Distance.{distance, belowZero, aboveZero}
-use Rattle.model.specs.Account.{Account, accountFits, heldCount, MOST-HELD}
-use Rattle.model.specs.Stages.{stage, takes}
+use Rattle.model.specs.Account.{Account, accountFits, heldCount}
+use Rattle.model.specs.Stages.{stage}
+use Rattle.model.specs.Taking.{wrongMark, notTaken, full}
 use Rattle.model.specs.Closing.{missing, LEAST-LIST}
 use Rattle.model.specs.Image.{LONGEST-IMAGE}
 use Rattle.model.specs.Decoding.{load}
@@ -116,15 +117,6 @@ module _ (a : Account) (e : Entry) where
   abbrev pub received : ℤ
   received = distance (e .sequence) (a .at (e .fragment) .counters .next)
 
-  abbrev pub wrongMark : Bool
-  wrongMark = isMark e && not (eqb (e .transaction) (a .at (e .fragment) .counters .epoch))
-
-  abbrev pub notTaken : Bool
-  notTaken = not (isMark e) && not (takes (e .kind) (stage (e .transaction) (a .at (e .fragment) .held)))
-
-  abbrev pub full : Bool
-  full = not (isMark e) && leb MOST-HELD (heldCount a)
-
 -- 4 to 11 of an entry for the account that the lot holds
 abbrev pub entryConditions : Lot → List ℕ → List Condition
 entryConditions v bytes =
@@ -134,9 +126,9 @@ entryConditions v bytes =
     ∷ 6 when ofHeld v (λ a. not (inside (a .fragments) (a .keys) e))
     ∷ 7 when ofHeld v (λ a. belowZero (received a e))
     ∷ 8 when ofHeld v (λ a. aboveZero (received a e))
-    ∷ 9 when ofHeld v (λ a. wrongMark a e)
-    ∷ 10 when ofHeld v (λ a. notTaken a e)
-    ∷ 11 when ofHeld v (λ a. full a e)
+    ∷ 9 when ofHeld v (λ a. wrongMark (a .at (e .fragment) .counters .epoch) e)
+    ∷ 10 when ofHeld v (λ a. notTaken (stage (e .transaction) (a .at (e .fragment) .held)) e)
+    ∷ 11 when ofHeld v (λ a. full (heldCount a) e)
     ∷ []
 
 -- 16 and 12 of a close; 6 of a read

@@ -23,12 +23,12 @@ use Rattle.lot.specs.Writing.{foundOf}
 use Rattle.lot.specs.declared.Account as numbers
 use Rattle.lot.specs.declared.Look.{Look}
 use Rattle.lot.proofs.Views.{holds-shown}
-use Rattle.lots.specs.Memory.{memoryFits, lotFits, lotOf, viewOf, Becomes, named, isFree, isDamaged, isOf, someBelow, lowestBelow}
+use Rattle.lots.specs.Memory.{memoryFits, lotFits, lotOf, viewOf, Becomes, named, isFree, isDamaged, isOf, someBelow, lowestBelow, Lowest}
 use Rattle.lots.specs.Looks.{lookFrom, looksDamaged, looksOf, findingOf, surveyOf, placeIn}
 use Rattle.standby.specs.Calls.{startAnswer, AllFree, Started, placeFor, openAnswer, readAnswer, dropFrom, dropAnswer, Dropped}
 use Rattle.lots.specs.declared.Finding.the-variants as finding
 use Rattle.lots.proofs.Parts.{memory-long, lot-inside, others-stay}
-use Rattle.lots.proofs.Lowest.{Lowest, lowest}
+use Rattle.lots.proofs.Lowest.{lowest}
 use Rattle.lots.proofs.Named.{finding-refused, finding-found, FoundHere, held-fits}
 
 -- ---- start

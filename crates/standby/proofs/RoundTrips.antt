@@ -1,5 +1,5 @@
 -- Saving and loading by the calls: a saved image loads to the account it was saved from, an accepted image saves to the same bytes, and load reads no more than the image. Assumes nothing.
-use Prim.Native.Nat.{ℕ, _≤_, _<_}
+use Prim.Native.Nat.{ℕ, _<_}
 use mathlib.Core.Path.{_≡_, refl, sym, ap, _∙_}
 use mathlib.Core.Logic.{_≢_}
 use mathlib.Core.Bool.{Bool, true, false}
@@ -10,11 +10,10 @@ use native.Mathlib.Omega.{arith}
 use borrow.Author.Tests.{leb-true, ne-eqb}
 use Rattle.model.specs.Lists.{if_then_else_}
 use Rattle.model.specs.Account.{Account}
-use Rattle.model.specs.Image.{image, LONGEST-IMAGE}
-use Rattle.model.specs.Decoding.{lastOf, load}
+use Rattle.model.specs.Image.{image}
+use Rattle.model.specs.Decoding.{load}
 use Rattle.model.specs.declared.Refusal.the-variants.{NoSuchLot}
 use Rattle.model.specs.declared.Outcome.the-variants.{Done, Refused}
-use Rattle.model.specs.declared.Saved.{Saved}
 use Rattle.model.specs.declared.Saved.the-variants.{Length}
 use Rattle.model.specs.declared.Opened.{Opened}
 use Rattle.model.specs.declared.Opened.the-variants.{InLot, NotOpened}
@@ -23,42 +22,13 @@ use Rattle.model.proofs.Image.{loads-exactly, save-load, reads-no-more}
 use Rattle.trailer.specs.Trailer.{numbersOf}
 use Rattle.lot.specs.View.{Lot, free, damaged, holds}
 use Rattle.lot.proofs.Views.{holds-well-formed}
-use Rattle.lots.specs.Memory.{memoryFits, lotFits, lotOf, viewOf, OnlyLot, isDamaged, isFree, isOf, someBelow, lowestBelow}
-use Rattle.lots.proofs.Lowest.{Lowest, none-passes, one-passes, lowest}
+use Rattle.lots.specs.Memory.{memoryFits, lotOf, viewOf, isDamaged, isFree, isOf, someBelow, lowestBelow}
+use Rattle.lots.proofs.Lowest.{none-passes, one-passes, lowest}
 use Rattle.standby.specs.Calls.{startAnswer, Started, placeFor}
-use Rattle.standby.specs.Images.{AccountSaved, loadAnswer, LoadedAs, AccountLoaded}
+use Rattle.standby.specs.Images.{loadAnswer, LoadedAs, AccountLoaded}
+use Rattle.standby.specs.RoundTrips.{SaveCall, LoadCall, Wrote, EndsWith, RoomFor, LoadedBack, SaveOfLoaded, SavedBack, WholeImage}
 use Rattle.standby.proofs.Saving.{SaveDone, saving, image-written, save-with-room}
 use Rattle.standby.proofs.Loading.{loading}
-
--- ---- a call of save and a call of load: what was lent before and after, the numbers given, the answer; and that the call kept its contract
-
-pub record SaveCall : Type 0 where
-  pub memory : List ℕ
-  pub lots : ℕ
-  pub lot : ℕ
-  pub account : ℕ
-  pub buffer-before : List ℕ
-  pub buffer-after : List ℕ
-  pub answer : Saved
-  pub kept : AccountSaved memory lots lot account buffer-before buffer-after answer
-
-pub record LoadCall : Type 0 where
-  pub memory-before : List ℕ
-  pub memory-after : List ℕ
-  pub lots : ℕ
-  pub given : List ℕ
-  pub answer : Opened
-  pub kept : AccountLoaded memory-before memory-after lots given answer
-
--- the save was done, and this is the image that it wrote
-pub record Wrote (s : SaveCall) (written : List ℕ) : Type 0 where
-  pub length-answered : s .answer ≡ Length (length written)
-  pub in-front : take (length written) (s .buffer-after) ≡ written
-
--- the data end with these bytes; longer data may stand before them
-pub record EndsWith (given written : List ℕ) : Type 0 where
-  pub front : List ℕ
-  pub ends : given ≡ front ++ written
 
 loaded-as : (l : LoadCall) {i : ℕ} → l .answer ≡ InLot i → LoadedAs (l .memory-before) (l .memory-after) (l .given) (InLot i)
 loaded-as l q = rw q at (l .kept .loaded)
@@ -102,15 +72,6 @@ same-image-same-account {s} {t} v w =
     done v .here .held ∙ ap holds e ∙ sym (done w .here .held)
 
 -- ---- a saved image loads to the account it was saved from
-
--- that account isn't open, a lot is free and none is damaged
-pub record RoomFor (memory : List ℕ) (lots account : ℕ) : Type 0 where
-  pub fits : memoryFits lots memory ≡ true
-  pub not-open : (i : ℕ) → i < lots → (a : Account) → viewOf memory i ≡ holds a → a .number ≢ account
-  pub free-lot : ℕ
-  pub is-there : free-lot < lots
-  pub is-free : viewOf memory free-lot ≡ free
-  pub none-damaged : (i : ℕ) → i < lots → viewOf memory i ≢ damaged
 
 -- a standby that was just started has room for any account
 pub started-has-room : {m m' : List ℕ} {lots : ℕ} → Started m m' lots Done → (account : ℕ) → RoomFor m' lots account
@@ -157,16 +118,6 @@ module _ {m : List ℕ} {lots account : ℕ} (room : RoomFor m lots account) whe
       let unknown = none-passes (λ i. isOf account (viewOf m i)) lots (λ i h. not-of account (viewOf m i) (room .not-open i h)) in
       rw (room .fits, whole, shows, own, unknown, some-free)
 
--- the answer is the free lot with the lowest number, which holds the account that was saved; every other byte stays
-pub record LoadedBack (s : SaveCall) (l : LoadCall) : Type 0 where
-  pub lot : ℕ
-  pub answered : l .answer ≡ InLot lot
-  pub lowest-free : Lowest (λ i. isFree (viewOf (l .memory-before) i)) (l .lots) lot
-  pub account : Account
-  pub saved-from : viewOf (s .memory) (s .lot) ≡ holds account
-  pub loaded-to : viewOf (l .memory-after) lot ≡ holds account
-  pub elsewhere : OnlyLot lot (l .memory-before) (l .memory-after)
-
 pub saved-image-loads : (s : SaveCall) (l : LoadCall) {written : List ℕ} → Wrote s written → EndsWith (l .given) written → RoomFor (l .memory-before) (l .lots) (s .account) → LoadedBack s l
 unfolding viewOf
 saved-image-loads s l w e room =
@@ -186,20 +137,6 @@ saved-image-loads s l w e room =
 
 -- ---- an accepted image saves to the same bytes
 
--- the lot and the account that the save names hold what the load left, and the buffer has room for the longest image
-pub record SaveOfLoaded (l : LoadCall) (s : SaveCall) : Type 0 where
-  pub lot : ℕ
-  pub loaded : l .answer ≡ InLot lot
-  pub unchanged : viewOf (s .memory) (s .lot) ≡ viewOf (l .memory-after) lot
-  pub there : lotFits (s .lots) (s .lot) (s .memory) ≡ true
-  pub own-account : (a : Account) → viewOf (s .memory) (s .lot) ≡ holds a → a .number ≡ s .account
-  pub room : LONGEST-IMAGE ≤ length (s .buffer-before)
-
-pub record SavedBack (l : LoadCall) (s : SaveCall) : Type 0 where
-  pub written : List ℕ
-  pub wrote : Wrote s written
-  pub same-bytes : EndsWith (l .given) written
-
 pub accepted-image-saves : (l : LoadCall) (s : SaveCall) → SaveOfLoaded l s → SavedBack l s
 accepted-image-saves l s p =
     let o = loading (l .memory-before) (l .lots) (l .given) (l .kept .answer) (p .loaded) in
@@ -215,11 +152,6 @@ accepted-image-saves l s p =
     }
 
 -- ---- load reads no more than the image
-
--- the bytes are at least as many as their trailer's length says
-pub record WholeImage (last : List ℕ) : Type 0 where
-  pub trailer : 24 ≤ length last
-  pub as-many : numbersOf (lastOf 24 last) .length ≤ length last
 
 -- data that agree on such last bytes are answered alike, and leave the same
 pub load-reads-no-more : {last : List ℕ} → WholeImage last → (front other-front : List ℕ) {m m' : List ℕ} {lots : ℕ} {r : Opened} → AccountLoaded m m' lots (front ++ last) r → AccountLoaded m m' lots (other-front ++ last) r

@@ -1,16 +1,15 @@
 -- Delivering one entry to one lot: what it is answered, and what the lot becomes.
 use Prim.Native.Nat.{ℕ, _+_, _*_, _<_, _^_}
 use mathlib.Core.Path.{_≡_}
-use mathlib.Core.Bool.{Bool, not, _&&_}
+use mathlib.Core.Bool.{Bool}
 use mathlib.Core.List.{List}
-use lib.Dec.{leb, eqb}
 use lib.ListN.{drop}
 use Rattle.model.specs.Lists.{if_then_else_}
-use Rattle.model.specs.Entry.{entryOf, isMark}
-use Rattle.model.specs.Account.{Held, Account, MOST-HELD}
-use Rattle.model.specs.Stages.{stage, takes}
+use Rattle.model.specs.Entry.{entryOf}
+use Rattle.model.specs.Account.{Held, Account}
+use Rattle.model.specs.Stages.{stage}
 use Rattle.model.specs.Distance.{distance, belowZero, aboveZero}
-use Rattle.model.specs.Taking.{judgeEntry, judge, deliverTo, stepped, taken}
+use Rattle.model.specs.Taking.{wrongMark, notTaken, full, judgeEntry, judge, deliverTo, stepped, taken}
 use Rattle.model.specs.Decoding.{countersOf}
 use Rattle.model.specs.declared.Entry.{Entry}
 use Rattle.model.specs.declared.Counters.{Counters}
@@ -31,9 +30,9 @@ use Rattle.lot.specs.declared.Account as numbers
 -- 9, 10 and 11 of an entry that is due: epoch o is open in its stream, its transaction is at stage s there, and n entries are held
 unfoldable pub judgeDue : ℕ → Stage → ℕ → Entry → Outcome
 judgeDue o s n e =
-    if isMark e && not (eqb (e .transaction) o) then Refused WrongMark
-    else if not (isMark e) && not (takes (e .kind) s) then Refused OutOfTurn
-    else if not (isMark e) && leb MOST-HELD n then Refused Full
+    if wrongMark o e then Refused WrongMark
+    else if notTaken s e then Refused OutOfTurn
+    else if full n e then Refused Full
     else Done
 
 -- 7 to 11 of an entry inside the account: its stream has the counters c and holds hs, and n entries are held in all
