@@ -64,12 +64,17 @@ not-both a b stay e = no-way (and-r a false e)
 pieces-few : (v : ℕ → Verdict) (es : List Held) → length (pieces v es) ≤ length es
 unfolding pieces
 pieces-few v es =
-    omega (arith, length-append (map (λ h. h .transaction) (filter committing es)) (map (λ h. h .transaction) (filter flagging es)),
-      length-map (filter committing es) (λ h. h .transaction), length-map (filter flagging es) (λ h. h .transaction),
-      two-sorts committing flagging (λ h e. not-both (eqb (h .kind) CC || eqb (h .kind) CP) (eqb (h .kind) P) (v (h .transaction)) e) es)
+    omega (
+      arith,
+      length-append (map (λ h. h .transaction) (filter committing es)) (map (λ h. h .transaction) (filter flagging es)),
+      length-map (filter committing es) (λ h. h .transaction),
+      length-map (filter flagging es) (λ h. h .transaction),
+      two-sorts committing flagging (λ h e. not-both (eqb (h .kind) CC || eqb (h .kind) CP) (eqb (h .kind) P) (v (h .transaction)) e) es,
+    )
   where
     committing : Held → Bool
     committing h = (eqb (h .kind) CC || eqb (h .kind) CP) && installs (v (h .transaction))
+
     flagging : Held → Bool
     flagging h = eqb (h .kind) P && flags (v (h .transaction))
 
@@ -87,8 +92,11 @@ pieces-held a =
     let piece : ℕ → ℕ → Piece = λ i t. record { fragment = i; transaction = t } in
     let own : ℕ → List Piece = λ i. map (piece i) (installed a i) in
     let z : 0 + f ≡ f = omega arith in
-    omega (arith, rw z at (length-upward f 0 own),
-      sum-most (λ i. length (a .at i .held)) (λ i. length (own i)) f (λ i l. omega (arith, length-map (installed a i) (piece i), installed-few a i)))
+    omega (
+      arith,
+      rw z at (length-upward f 0 own),
+      sum-most (λ i. length (a .at i .held)) (λ i. length (own i)) f (λ i l. omega (arith, length-map (installed a i) (piece i), installed-few a i)),
+    )
 
 -- ---- a byte has a bit for each of at most 8 streams
 
