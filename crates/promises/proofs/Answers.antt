@@ -231,7 +231,7 @@ first-listed (c ∷ cs) = go (c .met) (first-listed cs)
     go true e = rw (eq-eqb (c .number) (c .number) refl) (or-true (eqb (c .number) 0))
     go false e = skip (eqb (firstMet cs) 0) (eqb (firstMet cs) (c .number)) _ e
 
-others-zero : (s : Refusal) → eqb (refusalNumbers s .number) 12 ≡ false → (refusalNumbers s .first ≡ 0) × (refusalNumbers s .second ≡ 0)
+pub others-zero : (s : Refusal) → eqb (refusalNumbers s .number) 12 ≡ false → (refusalNumbers s .first ≡ 0) × (refusalNumbers s .second ≡ 0)
 others-zero NoSuchLot e = (refl, refl)
 others-zero Damaged e = (refl, refl)
 others-zero NotThisAccount e = (refl, refl)

@@ -3,6 +3,7 @@ pub mod Placing
 pub mod Written
 pub mod Isolation
 pub mod Answers
+pub mod Fitting
 pub mod Determined
 pub mod Lots
 pub mod Exist

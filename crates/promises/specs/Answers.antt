@@ -1,5 +1,5 @@
 -- Which numbers a call may be answered, when each refusal is given, and the answer.
-use Prim.Native.Nat.{ℕ}
+use Prim.Native.Nat.{ℕ, _/_, _%_, _≤_}
 use mathlib.Core.Path.{_≡_}
 use mathlib.Core.Bool.{Bool, true, false, not, _&&_}
 use mathlib.Core.Option.{Option, some, none}
@@ -25,6 +25,7 @@ use Rattle.standby.specs.Calls.{startAnswer, openAnswer, deliverAnswer, readAns
 use Rattle.standby.specs.Closing.{closeAnswer}
 use Rattle.standby.specs.Images.{saveAnswer, loadAnswer}
 use Rattle.overview.specs.Overview.{overviewAnswer}
+use Rattle.service.specs.Packing.{packed}
 use Rattle.promises.specs.Runs.{Call, start, open-account, deliver, close-epoch, read-record, save-account, load-account, drop-account, overview}
 
 -- ---- the page's "Order"
@@ -44,6 +45,17 @@ order (overview lots rows) = 1 ∷ 16 ∷ []
 pub record Known (c : Call) (n : Numbers) : Type 0 where
   pub listed : any (eqb (n .number)) (0 ∷ order c) ≡ true
   pub others : eqb (n .number) 0 ≡ false → eqb (n .number) 12 ≡ false → (n .first ≡ 0) × (n .second ≡ 0)
+
+-- .. and in range: refusals go to 17, and no first number (lot, count of pieces, byte, image's length) is above the longest image's length
+pub record InRange (n : Numbers) : Type 0 where
+  pub number-most : n .number ≤ 17
+  pub first-most : n .first ≤ LONGEST-IMAGE
+
+-- .. so that the three come back from the 64 bits that C gets, as include/standby.h takes them out: bits 0-7, bits 8-31, bits 32-63
+pub record ComesBack (n : Numbers) : Type 0 where
+  pub number-part : packed n % 256 ≡ n .number
+  pub first-part : packed n / 256 % 16777216 ≡ n .first
+  pub second-part : packed n / 4294967296 ≡ n .second
 
 -- ---- the answer's three numbers, as each call's contract has them
 

@@ -3,8 +3,9 @@ use Prim.Native.Nat.{ℕ, _+_, _*_, _%_}
 use mathlib.Core.Path.{_≡_}
 use Rattle.model.specs.declared.Numbers.{Numbers}
 
--- bits 0-7 the number, bits 8-31 the first other number, bits 32-63 the second. Each part has room: numbers go to 17, and the
--- largest first number is an image's length, at most 13,400. Where they fit, the parts come back (proofs/Packing.antt).
+-- bits 0-7 the number, bits 8-31 the first other number, bits 32-63 the second. Where they fit, the parts come back
+-- (proofs/Packing.antt), and every answer of the calls fits: numbers go to 17, and the largest first number is an image's length,
+-- at most 13,400 (answers-fit, numbers-come-back: crates/promises/proofs/Fitting.antt).
 abbrev pub packed : Numbers → ℕ
 packed n = n .number % 256 + 256 * (n .first % 16777216) + 4294967296 * n .second
 
