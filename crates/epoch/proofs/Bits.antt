@@ -22,7 +22,7 @@ one-times : (b : Bool) (w : ℕ) → one b * w ≤ w
 one-times true w = omega arith
 one-times false w = omega arith
 
-bits-lt : (p : ℕ → Bool) (n : ℕ) → bitsOf p n < 2 ^ n
+pub bits-lt : (p : ℕ → Bool) (n : ℕ) → bitsOf p n < 2 ^ n
 unfolding bitsOf
 bits-lt p zero = omega arith
 bits-lt p (suc n) = omega (arith, bits-lt p n, pow-suc 2 n, one-times (p n) (2 ^ n))

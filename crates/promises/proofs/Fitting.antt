@@ -1,15 +1,14 @@
 -- Every answer is in range: its number is at most 17, and its first number at most the longest image's length. So its parts come back from the 64 bits that C gets. Assumes nothing.
-use Prim.Native.Nat.{ℕ, zero, suc, _+_, _*_, _^_, _≤_, _<_}
+use Prim.Native.Nat.{ℕ, zero, suc, _+_, _≤_, _<_}
 use mathlib.Core.Path.{_≡_, refl, sym, ap, _∙_}
 use mathlib.Core.Bool.{Bool, true, false, not, _&&_, _||_, and-false}
 use mathlib.Core.List.{List, [], _∷_, map}
-use native.Mathlib.Nat.{pow-suc}
 use native.Mathlib.Omega.{arith}
 use lib.Dec.{leb, ltb, eqb}
 use lib.ListN.{length, length-append, length-map}
 use lib.Pow.{pow-mono}
 use borrow.Author.Tests.{eqb-true, leb-true}
-use Rattle.model.specs.Lists.{if_then_else_, filter, any, all, sumBelow, one, countBelow, bitsOf}
+use Rattle.model.specs.Lists.{if_then_else_, filter, any, all, sumBelow, countBelow, bitsOf}
 use Rattle.model.specs.Entry.{P, CC, CP}
 use Rattle.model.specs.Account.{Held, Account, accountFits, heldCount, Named, refused, found}
 use Rattle.model.specs.Accepting.{WellFormed}
@@ -29,6 +28,7 @@ use Rattle.model.proofs.Tests.{no-way, and-r, nth, any-out, all-in}
 use Rattle.model.proofs.Sums.{sum-most}
 use Rattle.model.proofs.Buckets.{length-upward}
 use Rattle.model.proofs.Image.{longest}
+use Rattle.epoch.proofs.Bits.{bits-lt}
 use Rattle.lot.specs.View.{Lot, free, damaged, holds, accountIn}
 use Rattle.lot.proofs.Views.{holds-well-formed}
 use Rattle.lots.specs.Memory.{MOST-LOTS, memoryFits, lotFits, lotOf, viewOf, named}
@@ -98,17 +98,6 @@ pieces-held a =
       sum-most (λ i. length (a .at i .held)) (λ i. length (own i)) f (λ i l. omega (arith, length-map (installed a i) (piece i), installed-few a i)),
     )
 
--- ---- a byte has a bit for each of at most 8 streams
-
-bits-below : (p : ℕ → Bool) (n : ℕ) → bitsOf p n < 2 ^ n
-unfolding bitsOf
-bits-below p zero = omega arith
-bits-below p (suc n) = go (p n) (bits-below p n)
-  where
-    go : (b : Bool) → bitsOf p n < 2 ^ n → one b * 2 ^ n + bitsOf p n < 2 ^ suc n
-    go true l = omega (arith, pow-suc 2 n)
-    go false l = omega (arith, pow-suc 2 n)
-
 -- ---- the first number of a call that names a lot and an account; `g` is that number, by what the call finds
 
 module _ (m : List ℕ) (lots lot number : ℕ) (g : Named → ℕ) (plain : (r : Refusal) → g (refused r) ≡ refusalNumbers r .first) where
@@ -133,7 +122,7 @@ of-close room a ok = go (ltb room LEAST-LIST) (eqb (countBelow (missing a) (a .f
     go : (short all : Bool) → closedNumbers (closeJudged (if short then Refused TooShort else (if all then Done else Refused (MarkMissing (bitsOf (missing a) (a .fragments)) (countBelow (missing a) (a .fragments))))) (length (listed a))) .first ≤ LONGEST-IMAGE
     go true all = omega arith
     go false true = omega (arith, pieces-held a, ok .room)
-    go false false = omega (arith, bits-below (missing a) (a .fragments), pow-mono (leb-true (a .fragments) 8 (nth _ (ok .fits) 3)))
+    go false false = omega (arith, bits-lt (missing a) (a .fragments), pow-mono (leb-true (a .fragments) 8 (nth _ (ok .fits) 3)))
 
 of-save : (room : ℕ) (a : Account) → WellFormed a → savedNumbers (saveFrom (found a) room) .first ≤ LONGEST-IMAGE
 of-save room a ok = go (ltb room LONGEST-IMAGE)
