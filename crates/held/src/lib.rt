@@ -140,11 +140,12 @@ pub fn section_fits(
     ensures { λ r. ⌜ r ≡ sectionFits keys closed (parse fragments 8 countersOf (now (streams .entry))) n (now (held .entry)) ⌝ }
 {
     let last = lookback::lasts(held, n);
-    let mut ok = true;
     let mut i: usize = 0;
     while i < n {
-        ok = ok & place_fits(streams, held, fragments, keys, closed, last[i], i);
+        if !place_fits(streams, held, fragments, keys, closed, last[i], i) {
+            return false;
+        }
         i += 1;
     }
-    ok
+    true
 }
