@@ -1,5 +1,5 @@
 -- `end_of` finds the end of a stream's entries, backwards. Assumes nothing.
-use Prim.Native.Nat.{_≤_}
+use Prim.Native.Nat.{_≤_, _-_}
 use mathlib.Core.Path.{_≡_, refl, sym, _∙_}
 use native.Mathlib.Omega.{arith}
 use borrow.Author.Needs.{needs}
@@ -32,7 +32,7 @@ shared-slice-read-if1 c = search needs
 returns : tie.Need-returns Inv-loop μ-loop
 returns c =
     let l = c .before .before .before .loop in
-    (l .inv .0, end-hit _ _ (l .p) _ (omega arith) (c .if1 .taken) ∙ sym (l .inv .1))
+    (l .inv .0, end-hit _ _ (l .p) (l .p - 1) (omega arith) (omega arith) ∙ sym (l .inv .1))
 
 loop-less : tie.Need-loop-less Inv-loop μ-loop
 loop-less c = search needs
@@ -40,7 +40,7 @@ loop-less c = search needs
 loop-again : tie.Need-loop-again Inv-loop μ-loop
 loop-again c =
     let l = c .before .before .before .loop in
-    (omega arith, l .inv .1 ∙ end-miss _ _ (l .p) _ (omega arith) (c .if1 .left))
+    (omega arith, l .inv .1 ∙ end-miss _ _ (l .p) (l .p - 1) (omega arith) (omega arith))
 
 returns-2 : tie.Need-returns-2 Inv-loop μ-loop
 returns-2 c =
