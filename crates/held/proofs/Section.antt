@@ -1,7 +1,7 @@
 -- What a held section that fits shows: each place fits, its stream is below f, and the streams' entries are as many as the places. Assumes nothing.
 use Prim.Native.Nat.{ℕ, zero, suc, _+_, _<_}
-use mathlib.Core.Path.{_≡_, sym, ap, _∙_, fun-ext}
-use mathlib.Core.Bool.{true, _&&_}
+use mathlib.Core.Path.{_≡_, refl, sym, ap, _∙_, fun-ext}
+use mathlib.Core.Bool.{Bool, true, false, _&&_}
 use mathlib.Core.List.{List, [], map}
 use native.Mathlib.Numerals.{add-one}
 use native.Mathlib.Omega.{arith}
@@ -39,6 +39,13 @@ module _ (k c : ℕ) (ss : List Counters) (h : List ℕ) where
       go : Dec (i < n) → (i < n → placeFits k c ss h i ≡ true) → placeFits k c ss h i ≡ true
       go (yes u) ih = ih u
       go (no u) ih = let e : i ≡ n = omega arith in rw e (and-r (sectionFits k c ss n h) _ both)
+
+  pub unfit-place : (n i : ℕ) → i < n → placeFits k c ss h i ≡ false → sectionFits k c ss n h ≡ false
+  unfit-place n i l u = go (sectionFits k c ss n h) refl
+    where
+      go : (b : Bool) → sectionFits k c ss n h ≡ b → sectionFits k c ss n h ≡ false
+      go true w = w ∙ sym (place-fits n w i l) ∙ u
+      go false w = w
 
   pub stream-within : (n : ℕ) → sectionFits k c ss n h ≡ true → (i : ℕ) → i < n → itemAt h i .stream < length ss
   unfolding placeFits entryFits inAccount

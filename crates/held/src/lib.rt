@@ -127,7 +127,7 @@ fn place_fits(
         & in_turn(held, closed, opened, stage, i)
 }
 
-// The first n places fit the streams, whose counters stand 8 bytes apart.
+// The first n places fit the streams, whose counters stand 8 bytes apart. A place is chained once it is found to fit.
 pub fn section_fits(
     streams: &[u8],
     held: &[u8],
@@ -139,12 +139,20 @@ pub fn section_fits(
     requires { ⌜ (fragments * 8 ≤ length (now streams)) × (n ≤ 256) × (n * 20 ≤ length (now held)) ⌝ }
     ensures { λ r. ⌜ r ≡ sectionFits keys closed (parse fragments 8 countersOf (now (streams .entry))) n (now (held .entry)) ⌝ }
 {
-    let last = lookback::lasts(held, n);
-    let mut ok = true;
+    let mut head = [0u16; 256];
+    let mut next = [0u16; 256];
     let mut i: usize = 0;
     while i < n {
-        ok = ok & place_fits(streams, held, fragments, keys, closed, last[i], i);
+        let s = lookback::stream_at(held, i);
+        let t = lookback::transaction_at(held, i);
+        let last = lookback::last_indexed(held, &head, &next, i, s, t);
+        if !place_fits(streams, held, fragments, keys, closed, last, i) {
+            return false;
+        }
+        let b = lookback::bucket(s, t);
+        next[i] = head[b];
+        head[b] = (i + 1) as u16;
         i += 1;
     }
-    ok
+    true
 }

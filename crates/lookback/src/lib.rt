@@ -87,7 +87,8 @@ pub fn wide16(x: u16) -> usize
     x as usize
 }
 
-fn bucket(fragment: u8, transaction: u32) -> usize
+// The bucket of a stream and a transaction.
+pub fn bucket(fragment: u8, transaction: u32) -> usize
     ensures { λ r. ⌜ (r ≡ bucketOf fragment transaction) × (r < 256) ⌝ }
 {
     ((wide(transaction) * 2654435761 / 16777216 + (fragment as u64)) % 256) as usize

@@ -27,13 +27,13 @@ module _ (h : List ℕ) (i : ℕ) where
   unfolding endOf
   end-start = refl
 
-  pub end-hit : (j : ℕ) → streamAt h j ≤ i → j + 1 ≡ endOf h (j + 1) i
+  pub end-hit : (p j : ℕ) → p ≡ j + 1 → streamAt h j ≤ i → p ≡ endOf h p i
   unfolding endOf
-  end-hit j q = rw (add-one j, le-leb (streamAt h j) i q)
+  end-hit p j e q = rw (e, add-one j, le-leb (streamAt h j) i q)
 
-  pub end-miss : (j p : ℕ) → p ≡ endOf h j i → i < streamAt h j → p ≡ endOf h (j + 1) i
+  pub end-miss : (p j : ℕ) → p ≡ j + 1 → i < streamAt h j → endOf h p i ≡ endOf h j i
   unfolding endOf
-  end-miss j p e q = rw (add-one j, lt-leb (streamAt h j) i q) e
+  end-miss p j e q = rw (e, add-one j, lt-leb (streamAt h j) i q)
 
   -- ---- where it is
 

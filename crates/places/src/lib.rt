@@ -12,15 +12,15 @@ pub fn end_of(held: &[u8], n: usize, fragment: u8) -> usize
     requires { ⌜ n * 20 ≤ length (now held) ⌝ }
     ensures { λ p. ⌜ (p ≤ n) × (p ≡ endOf (now (held .entry)) n fragment) ⌝ }
 {
-    let mut p: usize = 0;
-    let mut i: usize = 0;
-    while i < n {
+    let mut p = n;
+    while p != 0 {
+        let i = p - 1;
         if held[i * 20 + 1] <= fragment {
-            p = i + 1;
+            return p;
         }
-        i += 1;
+        p = i;
     }
-    p
+    0
 }
 
 // Moves the bytes from start up to end on by one place.

@@ -1,66 +1,52 @@
--- `end_of` keeps the last place so far whose stream is not above the fragment. Assumes nothing.
+-- `end_of` finds the end of a stream's entries, backwards. Assumes nothing.
 use Prim.Native.Nat.{_≤_, _-_}
-use mathlib.Core.Path.{_≡_}
-use mathlib.Core.Logic.{⊎-elim}
+use mathlib.Core.Path.{_≡_, refl, sym, _∙_}
 use native.Mathlib.Omega.{arith}
 use borrow.Author.Needs.{needs}
 use Rattle.places.specs.Places.{endOf}
-use Rattle.places.proofs.Ends.{end-start, end-hit, end-miss, end-within}
+use Rattle.places.proofs.Ends.{end-start, end-hit, end-miss}
 use Rattle.places.proofs.end_of.Statement.{statement}
 use Rattle.places.proofs.end_of.Tie as tie
-use Rattle.places.proofs.end_of.Reads as reads
-use Rattle.places.proofs.end_of.Lts as lts
 
 abbrev Inv-loop : tie.InvT-loop
-Inv-loop held n fragment p₀ i₀ p i = (i ≤ n) × (p ≡ endOf held i fragment)
+Inv-loop held n fragment p₀ p = (p ≤ n) × (endOf held n fragment ≡ endOf held p fragment)
 
 abbrev μ-loop : tie.MeasureT-loop
-μ-loop held n fragment p₀ i₀ p i = n - i
+μ-loop held n fragment p₀ p = p
 
--- src/lib.rt:17:5
 loop-holds : tie.Need-loop-holds Inv-loop μ-loop
-loop-holds c = (omega arith, end-start _ _)
+loop-holds c = (omega arith, refl)
 
--- src/lib.rt:18:17
+sub-i : tie.Need-sub-i Inv-loop μ-loop
+sub-i c = search needs
+
 mul-if1 : tie.Need-mul-if1 Inv-loop μ-loop
 mul-if1 c = search needs
 
--- src/lib.rt:18:17
 add-if1 : tie.Need-add-if1 Inv-loop μ-loop
 add-if1 c = search needs
 
--- src/lib.rt:18:12
 shared-slice-read-if1 : tie.Need-shared-slice-read-if1 Inv-loop μ-loop
 shared-slice-read-if1 c = search needs
 
--- src/lib.rt:19:17
-add-p : tie.Need-add-p Inv-loop μ-loop
-add-p c = search needs
+returns : tie.Need-returns Inv-loop μ-loop
+returns c =
+    let l = c .before .before .before .loop in
+    (l .inv .0, end-hit _ _ (l .p) (l .p - 1) (omega arith) (omega arith) ∙ sym (l .inv .1))
 
--- src/lib.rt:21:9
-add-i : tie.Need-add-i Inv-loop μ-loop
-add-i c = search needs
-
--- src/lib.rt:17:5
 loop-less : tie.Need-loop-less Inv-loop μ-loop
 loop-less c = search needs
 
--- src/lib.rt:17:5
 loop-again : tie.Need-loop-again Inv-loop μ-loop
 loop-again c =
     let l = c .before .before .before .loop in
-    ⊎-elim
-    (λ w. (omega arith, rw (w .1) (end-hit _ _ (l .i) (w .0 .taken))))
-    (λ w. (omega arith, rw (w .1) (end-miss _ _ (l .i) (l .p) (l .inv .1) (w .0 .left))))
-    (c .if1 .came)
+    (omega arith, l .inv .1 ∙ end-miss _ _ (l .p) (l .p - 1) (omega arith) (omega arith))
 
--- src/lib.rt:11:1
-returns : tie.Need-returns Inv-loop μ-loop
-returns c =
+returns-2 : tie.Need-returns-2 Inv-loop μ-loop
+returns-2 c =
     let l = c .before .loop in
-    let e : l .i ≡ c .before .before .args .n = omega arith in
-    let q : l .p ≡ endOf (c .before .before .args .held .now) (c .before .before .args .n) (c .before .before .args .fragment) = rw (← e) (l .inv .1) in
-    (rw q (end-within _ _ _), q)
+    let z : l .p ≡ 0 = omega arith in
+    (omega arith, rw (l .inv .1, z) (end-start _ _))
 
 pub end-of-spec : {M : Type 1} → statement M
 end-of-spec =
@@ -69,11 +55,11 @@ end-of-spec =
     Inv-loop
     μ-loop
     loop-holds
+    sub-i
     mul-if1
     add-if1
     shared-slice-read-if1
-    add-p
-    add-i
+    returns
     loop-less
     loop-again
-    returns)
+    returns-2)
