@@ -4,9 +4,11 @@ pub mod Written
 pub mod Isolation
 pub mod Answers
 pub mod Determined
+pub mod Undamaged
 pub mod Lots
 pub mod Exist
 pub mod Wrong
+pub mod Starred
 -- demands 2 and 3: one account over a run
 pub mod Answered
 pub mod Closes
