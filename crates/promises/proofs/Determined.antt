@@ -37,10 +37,10 @@ either-same true m = refl
 either-same false m = refl
 
 -- past the last lot there is nothing
-no-lot : (m : List ℕ) (lots i : ℕ) → length m ≡ lots * SIZE → lots ≤ i → lotOf m i ≡ []
+pub no-lot : (m : List ℕ) (lots i : ℕ) → length m ≡ lots * SIZE → lots ≤ i → lotOf m i ≡ []
 no-lot m lots i e h = rw (drop-of-length-le m {i = i * SIZE} (omega arith))
 
-started-fits : {m m' : List ℕ} {lots : ℕ} → Started m m' lots Done → memoryFits lots m ≡ true
+pub started-fits : {m m' : List ℕ} {lots : ℕ} → Started m m' lots Done → memoryFits lots m ≡ true
 unfolding startAnswer
 started-fits {m} {m'} {lots} w = go (memoryFits lots m) (w .answer)
   where

@@ -5,9 +5,11 @@ pub mod Isolation
 pub mod Answers
 pub mod Fitting
 pub mod Determined
+pub mod Undamaged
 pub mod Lots
 pub mod Exist
 pub mod Wrong
+pub mod Starred
 -- demands 2 and 3: one account over a run
 pub mod Answered
 pub mod Closes

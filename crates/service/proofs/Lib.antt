@@ -3,3 +3,4 @@ pub mod Bytes
 pub mod Crossing
 pub mod Closing
 pub mod Rows
+pub mod Determined
