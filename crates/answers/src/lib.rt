@@ -1,5 +1,7 @@
 // The numbers of an answer, in code: 0 is done, and a refusal has its number; other numbers are 0 but for 12.
 // What they are stands in the model, specs/Answers.antt. It stands on `model`.
+#![tactic(auto)]
+
 ghost use Rattle.std.specs.Prelude.{◌≡◌};
 ghost use Rattle.model.specs.Answers.{refusal_numbers};
 

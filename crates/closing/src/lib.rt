@@ -1,5 +1,7 @@
 // Closing an epoch in one lot: one look at the lot, then the judgement, which only reads, then the close, section by section.
 // It stands on `lot` and `writes`, on `epoch` for what is installed, and on `survivors` for what stays held.
+#![tactic(auto)]
+
 ghost use Rattle.std.specs.Prelude.{◌≡◌, ◌≤◌, ◌<◌, length};
 ghost use Rattle.lot.specs.Layout.{SIZE, records_of};
 ghost use Rattle.lot.specs.Look.{Looked};

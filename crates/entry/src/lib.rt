@@ -1,6 +1,8 @@
 // Judging an entry: whether its fields fit (5), whether it stands inside its account (6), the signed distance of
 // its sequence number (7, 8), and the table of the stages that take it (10).
 // It stands on `model`: each contract here is a definition there.
+#![tactic(auto)]
+
 ghost use Rattle.std.specs.Prelude.{◌≡◌};
 ghost use Rattle.model.specs.Entry.{fields_fit, fits, in_account, inside};
 ghost use Rattle.model.specs.Distance.{distance};

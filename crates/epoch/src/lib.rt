@@ -1,5 +1,7 @@
 // Closing an epoch over the sections of a lot: the marks that are missing, and the pieces installed.
 // It stands on `verdicts` and `install`, and on `survivors` for what stays held; it takes its snapshot with the kit's `bytes`.
+#![tactic(auto)]
+
 ghost use Rattle.std.specs.Prelude.{◌≡◌, ◌+◌, ◌*◌, ◌≤◌, ◌<◌, length};
 ghost use Rattle.std.specs.Int.Count.{ones};
 ghost use Rattle.model.specs.Lists.{bits_of};

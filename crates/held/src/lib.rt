@@ -1,5 +1,7 @@
 // The test of a held section, in one pass over its places: load and the damage test of a lot share it.
 // It stands on `wire`, `model`, `entry` and `lookback`.
+#![tactic(auto)]
+
 ghost use Rattle.std.specs.Prelude.{◌≡◌, [], ◌+◌, ◌*◌, ◌≤◌, ◌<◌, length, drop};
 ghost use Rattle.model.specs.Accepting.{entry_fits, follows};
 ghost use Rattle.model.specs.Decoding.{counters_of, counters_at, parse};

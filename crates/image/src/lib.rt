@@ -1,5 +1,7 @@
 // The saved image of one lot: saving a lot, and loading one from data that were judged.
 // It stands on `wire`, `model`, `lot`, `writes`, `trailer`, `judging` and the kit's `bytes`.
+#![tactic(auto)]
+
 ghost use Rattle.std.specs.Prelude.{◌≡◌, ◌∷◌, ◌+◌, ◌*◌, ◌≤◌, ◌<◌, length};
 ghost use Rattle.model.specs.Image.{record8, each, LONGEST_IMAGE};
 ghost use Rattle.model.specs.Decoding.{present_of, parse};

@@ -1,5 +1,7 @@
 // Installing the pieces of an epoch: each is listed, and its writes are applied to the records, in the order of docs/RULES.md.
 // It stands on `verdicts`, which says what is installed, on `lookback` and `held`, and on `lot` for the records.
+#![tactic(auto)]
+
 ghost use Rattle.std.specs.Prelude.{◌≡◌, ◌+◌, ◌*◌, ◌≤◌, ◌<◌, length, set};
 ghost use Rattle.model.specs.Section.{item_at};
 ghost use Rattle.lookback.specs.Last.{Lasts};

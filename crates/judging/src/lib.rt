@@ -1,5 +1,7 @@
 // Judging data: whether an image ends it, as the model's load accepts it. The laws of an image's bytes stand in proofs/.
 // It stands on `wire`, `model`, `held`, whose test of a held section the damage test shares, `lot` and `trailer`.
+#![tactic(auto)]
+
 ghost use Rattle.std.specs.Prelude.{◌≡◌, ◌+◌, ◌*◌, ◌≤◌, length};
 ghost use Rattle.model.specs.Decoding.{place};
 ghost use Rattle.lot.specs.View.{all_below};

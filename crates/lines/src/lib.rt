@@ -1,5 +1,7 @@
 // The lines that the program of docs/RULES.md prints, written as text into a lent buffer.
 // specs/Lines.antt has each line, and specs/Text.antt what it means that a text is written. It stands on `model`.
+#![tactic(auto)]
+
 ghost use Rattle.std.specs.Prelude.{◌≡◌, [], ◌∷◌, ◌+◌, ◌≤◌, length};
 ghost use Rattle.lines.specs.Text.{ROOM as Text-as-ROOM, last_digit, decimal, Wrote};
 ghost use Rattle.lines.specs.Lines.{number, last, epoch_line, piece_line, record_line, held_line, entry_line, open_line};

@@ -1,5 +1,7 @@
 // Looking back in a held section: the last place of a stream and a transaction, and the stage that it says.
 // It stands on `wire`, `model` and `entry`.
+#![tactic(auto)]
+
 ghost use Rattle.std.specs.Prelude.{◌≡◌, ◌+◌, ◌≤◌, ◌<◌, ◌*◌, length};
 ghost use Rattle.model.specs.Decoding.{mine};
 ghost use Rattle.model.specs.Stages.{stage};

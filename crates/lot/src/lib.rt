@@ -1,6 +1,8 @@
 // One lot's bytes, in four sections: head, streams, places and records. What they mean stands in specs/View.antt.
 // Each reader and writer takes one section and knows only its offsets; one look at a lot serves a whole call.
 // It stands on `wire`, `model` and `held`, whose test of the places is a part of the damage test.
+#![tactic(auto)]
+
 ghost use Rattle.std.specs.Prelude.{◌≡◌, ◌+◌, ◌*◌, ◌<◌, ◌≤◌, length, drop};
 ghost use Rattle.model.specs.Account.{account_fits};
 ghost use Rattle.model.specs.Decoding.{counters_of, same};

@@ -1,5 +1,7 @@
 // Lots in lent memory: what a call finds in the lot and the account that it names, what it learns of all lots, and how it lends one lot on to be written.
 // It stands on `model`, `lot` and `writes`.
+#![tactic(auto)]
+
 ghost use Rattle.std.specs.Prelude.{◌≡◌, true, ◌+◌, ◌*◌, ◌≤◌, length};
 ghost use Rattle.model.specs.Account.{account_fits, fresh};
 ghost use Rattle.lot.specs.Layout.{SIZE};

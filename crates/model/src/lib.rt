@@ -1,5 +1,7 @@
 // What a reader must believe: one account of the standby as definitions, in specs/, and what follows from
 // them alone, in proofs/. Here stand only the types that the definitions share with the code.
+#![tactic(auto)]
+
 ghost use Rattle.std.specs.Prelude.{◌≡◌, ◌≤◌, length};
 ghost use Rattle.model.specs.Entry.{LENGTH, entry_of};
 ghost use Rattle.model.specs.Account.{fresh_counters};

@@ -1,5 +1,7 @@
 // The desk's overview: account, closed epoch, held count and damage of each lot. What it owes stands in specs/Overview.antt.
 // It stands on `lots`, `lot` and `model`.
+#![tactic(auto)]
+
 ghost use Rattle.std.specs.Prelude.{◌≡◌, ◌+◌, ◌*◌, ◌≤◌, length};
 ghost use Rattle.lot.specs.Layout.{SIZE};
 ghost use Rattle.lots.specs.Memory.{view_of};

@@ -1,6 +1,8 @@
 // Putting an entry into a held section: 256 places of 20 bytes, sorted by stream, of which the first n hold entries.
 // The entry goes to the end of its stream's entries, and the places after them move up by one.
 // It stands on `wire`, on `model`, whose items the places are, and on the kit's `bytes`.
+#![tactic(auto)]
+
 ghost use Rattle.std.specs.Prelude.{◌≡◌, ◌+◌, ◌*◌, ◌≤◌, ◌<◌, length};
 ghost use Rattle.places.specs.Moves.{shifted, inserted};
 ghost use Rattle.places.specs.Places.{end_of, EntryHeld};

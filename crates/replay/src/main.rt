@@ -1,5 +1,7 @@
 // The program of docs/RULES.md: reads one account from standard input (account 2 bytes, f 1, k 1, then entries), closes while it
 // can after each taken entry, and prints what happened and what is there at the end. It stands on `replaying`.
+#![tactic(auto)]
+
 use libc::{STDIN_FILENO, STDOUT_FILENO};
 
 fn print(text: &[u8], length: usize) {

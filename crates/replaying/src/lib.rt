@@ -1,5 +1,7 @@
 // The program of docs/RULES.md but for its reading and writing: each call on its one lot of lent memory, and the lines that
 // tell what happened, written into a lent buffer. specs/Replaying.antt has what each function owes. It stands on `standby`, `overview` and `lines`.
+#![tactic(auto)]
+
 ghost use Rattle.std.specs.Prelude.{◌≡◌, ◌+◌, ◌*◌, ◌≤◌};
 ghost use Rattle.lines.specs.Text.{Wrote, ROOM};
 ghost use Rattle.lots.specs.Memory.{named};

@@ -1,6 +1,8 @@
 // The functions for C, as include/standby.h declares them: each calls the standby, and answers one number that packs the
 // numbers of its answer. A lent slice is a pointer and a length. Lists cross as bytes (specs/Crossing.antt).
 // It stands on `standby` and `overview`, whose contracts each function keeps.
+#![tactic(auto)]
+
 ghost use Rattle.std.specs.Prelude.{◌≡◌, ◌+◌, ◌*◌, ◌≤◌, length, take};
 ghost use Rattle.wire.specs.Numbers.{bytes32};
 ghost use Rattle.model.specs.Closing.{LEAST_LIST};

@@ -1,6 +1,8 @@
 // The calls. What each owes stands in specs/.
 // A call finds its lot, looks at it once, decides, and only then writes, in that lot alone: the lot is lent on as a part of the memory.
 // It stands on `lots`, on `taking`, `closing` and `image`, which deliver to one lot, close an epoch in it, save and load it, on `judging` and `trailer`, which judge data and read their trailer, on `lot` and `model`.
+#![tactic(auto)]
+
 ghost use Rattle.std.specs.Prelude.{◌≡◌, ◌+◌, ◌*◌, ◌≤◌, ◌<◌, length};
 ghost use Rattle.model.specs.Account.{MOST_FRAGMENTS, MOST_KEYS};
 ghost use Rattle.model.specs.Image.{LONGEST_IMAGE};

@@ -1,6 +1,8 @@
 // One stream's two counters, and what a taken entry makes of them: the next number steps, and a mark raises the open epoch.
 // By value first; then where the caller holds them; then over plain numbers, for callers that hold no counters.
 // It stands on `model`, whose `stepped` is the contract of all three.
+#![tactic(auto)]
+
 ghost use Rattle.std.specs.Prelude.{◌≡◌, ◌≤◌, true};
 ghost use Rattle.model.specs.Entry.{LAST_MARK};
 ghost use Rattle.model.specs.Taking.{stepped};

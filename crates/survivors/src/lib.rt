@@ -1,5 +1,7 @@
 // The held section written anew when an epoch is closed: what survives of a snapshot of it, each place moved at most once.
 // It stands on `places`, `held` and `verdicts`, whose numbers say what becomes of each place, and on the kit's `bytes`.
+#![tactic(auto)]
+
 ghost use Rattle.std.specs.Prelude.{◌≡◌, ◌+◌, ◌*◌, ◌≤◌, ◌<◌, length, set};
 ghost use Rattle.places.specs.Moves.{inserted};
 ghost use Rattle.survivors.specs.Left.{goes, flag_byte, Kept, Left};

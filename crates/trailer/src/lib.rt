@@ -1,5 +1,7 @@
 // The trailer of a saved image: its 24 bytes read, judged by themselves, and written.
 // It stands on `wire`, `model`, `lot` for the limits of an account, and the kit's `bytes`.
+#![tactic(auto)]
+
 ghost use Rattle.std.specs.Prelude.{◌≡◌, ◌≤◌, ◌++◌, length, drop};
 ghost use Rattle.model.specs.Decoding.{same};
 ghost use Rattle.trailer.specs.Trailer.{numbers_of, count_bytes, trailer_bytes, signed, image_length, trailer_fits};

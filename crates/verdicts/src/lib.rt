@@ -1,5 +1,7 @@
 // What becomes of each transaction in a held section when an epoch is closed, place by place.
 // It stands on `model`, whose verdicts these are, on `lookback` and on `held`.
+#![tactic(auto)]
+
 ghost use Rattle.std.specs.Prelude.{◌≡◌, ◌+◌, ◌*◌, ◌≤◌, ◌<◌, length};
 ghost use Rattle.model.specs.Section.{item_at};
 ghost use Rattle.lookback.specs.Last.{last_before, Lasts, Indexed};

@@ -1,4 +1,6 @@
 // Numbers in bytes, the lowest byte first: reading and writing them in a lent slice.
+#![tactic(auto)]
+
 ghost use Rattle.std.specs.Prelude.{◌≡◌, ◌+◌, ◌*◌, ◌<◌, ◌≤◌, length};
 ghost use Rattle.wire.specs.Numbers.{number16, number32, with16, with32};
 
@@ -15,6 +17,7 @@ fn join32(a: u8, b: u8, c: u8, d: u8) -> u32
     (a as u32) + 256 * (b as u32) + 65536 * (c as u32) + 16777216 * (d as u32)
 }
 
+#[tactic(auto, unfolding(crate::specs::Numbers::number16))]
 pub fn get16(s: &[u8], at: usize) -> u16
     requires { at + 2 ≤ length s.now }
     ensures { result ≡ number16 s.now at }
@@ -22,6 +25,7 @@ pub fn get16(s: &[u8], at: usize) -> u16
     join16(s[at], s[at + 1])
 }
 
+#[tactic(auto, unfolding(crate::specs::Numbers::number32))]
 pub fn get32(s: &[u8], at: usize) -> u32
     requires { at + 4 ≤ length s.now }
     ensures { result ≡ number32 s.now at }
@@ -29,6 +33,7 @@ pub fn get32(s: &[u8], at: usize) -> u32
     join32(s[at], s[at + 1], s[at + 2], s[at + 3])
 }
 
+#[tactic(auto, unfolding(crate::specs::Numbers::with16))]
 pub fn put16(s: &mut [u8], at: usize, v: u16)
     requires { at + 2 ≤ length s.old }
     ensures { s.new ≡ with16 s.old at v }
@@ -37,6 +42,7 @@ pub fn put16(s: &mut [u8], at: usize, v: u16)
     s[at + 1] = (v / 256) as u8;
 }
 
+#[tactic(auto, unfolding(crate::specs::Numbers::with32))]
 pub fn put32(s: &mut [u8], at: usize, v: u32)
     requires { at + 4 ≤ length s.old }
     ensures { s.new ≡ with32 s.old at v }

@@ -1,5 +1,7 @@
 // Writing in a lot: a section is lent as a part of it, and the other sections stay. Then whole lots: freed, and with an account opened.
 // What the view is after each write stands in proofs/. It stands on `lot`.
+#![tactic(auto)]
+
 ghost use Rattle.std.specs.Prelude.{◌≡◌, true, ◌++◌, ◌<◌, ◌≤◌, length, drop};
 ghost use Rattle.model.specs.Account.{account_fits, fresh};
 ghost use Rattle.lot.specs.Layout.{SIZE, FREE, streams_of, places_of, records_of};
