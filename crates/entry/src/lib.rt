@@ -60,7 +60,7 @@ pub fn distance(received: u16, expected: u16) -> i16
 }
 
 // Where a received sequence number stands.
-#[derive(Drop)]
+#[derive(Clone, Copy)]
 pub enum Sequence {
     Due,
     Seen,

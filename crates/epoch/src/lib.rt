@@ -34,7 +34,7 @@ fn missing_byte(streams: &[u8], fragments: u8, closed: u32) -> u8
     byte as u8
 }
 
-#[derive(Drop)]
+#[derive(Clone, Copy)]
 pub struct Missing {
     pub streams: u8,
     pub ones: u8,
@@ -59,12 +59,12 @@ pub fn snapshot(section: &[u8]) -> [u8; 5120]
     ensures { result ≡ section.now }
 {
     let mut old = [0u8; 5120];
-    bytes::copy(section, &mut old);
+    wire::copy(section, &mut old);
     old
 }
 
 // How many pieces were installed, and the verdict on each place.
-#[derive(Drop)]
+#[derive(Clone, Copy)]
 pub struct Applied {
     pub pieces: u32,
     pub numbers: [u8; 256],

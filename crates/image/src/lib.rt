@@ -28,7 +28,7 @@ fn save_bytes(from: &[u8], image: &mut [u8], at: usize) -> usize
     ensures { Written image.old image.new at result from.now }
 {
     let end = at + from.len();
-    bytes::copy(from, &mut image[at..end]);
+    wire::copy(from, &mut image[at..end]);
     end
 }
 

@@ -82,7 +82,7 @@ fn sections_fit(image: &[u8], t: Trailer) -> bool
         )
 }
 
-#[derive(Drop)]
+#[derive(Clone, Copy)]
 pub enum Judged {
     NotAccepted,
     Accepted(Trailer),

@@ -141,7 +141,7 @@ pub fn lasts(held: &[u8], n: usize) -> [u16; 256]
 
 // The chains alone, for places that are looked for from the end: the last place of each bucket, and for each place the one
 // before it in its bucket.
-#[derive(Drop)]
+#[derive(Clone, Copy)]
 pub struct Index {
     pub head: [u16; 256],
     pub next: [u16; 256],

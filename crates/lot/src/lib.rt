@@ -24,7 +24,7 @@ pub const RECORDS: usize = 5200;
 pub const SIZE: usize = 10320;
 
 // The numbers of an account, as the head of its lot has them.
-#[derive(Drop)]
+#[derive(Clone, Copy)]
 pub struct Account {
     pub number: u16,
     pub fragments: u8,
@@ -89,7 +89,7 @@ pub fn write_head(head: &mut [u8], account: Account)
     requires { length head.old ≡ 16 }
     ensures { head.new ≡ head_bytes account }
 {
-    bytes::copy(b"OPEN", head);
+    wire::copy(b"OPEN", head);
     wire::put16(head, 4, account.number);
     wire::put16(head, 6, account.fragments as u16);
     wire::put16(head, 8, account.keys);
@@ -238,7 +238,7 @@ fn fits(head: &[u8], streams: &[u8], places: &[u8]) -> bool
 }
 
 // What a lot is, and of an open one the account's numbers.
-#[derive(Drop)]
+#[derive(Clone, Copy)]
 pub enum Look {
     Free,
     Damaged,

@@ -72,7 +72,7 @@ pub fn looks_of(look: Look, account: u32) -> bool
 // ---- a lot and an account are named
 
 // What such a call finds: its account, or 1, 2 or 3.
-#[derive(Drop)]
+#[derive(Clone, Copy)]
 pub enum Finding {
     Refused(Refusal),
     Found(lot::Account),
@@ -105,7 +105,7 @@ pub fn find(memory: &[u8], lots: u32, lot: u32, account: u32) -> Finding
 
 // What a call that opens an account learns of all lots: some lot is damaged, the account is open in one, some lot is free, and
 // the free lot with the lowest number.
-#[derive(Drop)]
+#[derive(Clone, Copy)]
 pub struct Survey {
     pub damaged: bool,
     pub known: bool,

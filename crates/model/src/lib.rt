@@ -7,7 +7,7 @@ ghost use Rattle.model.specs.Entry.{LENGTH, entry_of};
 ghost use Rattle.model.specs.Account.{fresh_counters};
 
 // The stage of a transaction in a stream, by what is held of it there.
-#[derive(Drop)]
+#[derive(Clone, Copy)]
 pub enum Stage {
     Unheard,
     Writing,
@@ -17,7 +17,7 @@ pub enum Stage {
 
 // The fields of an entry's 16 bytes. `argument` is the key of a put or a delete, and the coordinator fragment of a P;
 // `transaction` is a mark's epoch; `spare` is bytes 10 and 11.
-#[derive(Drop)]
+#[derive(Clone, Copy)]
 pub struct Entry {
     pub kind: u8,
     pub fragment: u8,
@@ -65,7 +65,7 @@ impl Entry {
 }
 
 // One stream's two counters: its next sequence number and its open epoch.
-#[derive(Drop)]
+#[derive(Clone, Copy)]
 pub struct Counters {
     pub next: u16,
     pub epoch: u32,
@@ -81,7 +81,7 @@ impl Counters {
 }
 
 // Why a call is refused. Each case's number stands in specs/Answers.antt.
-#[derive(Drop)]
+#[derive(Clone, Copy)]
 pub enum Refusal {
     NoSuchLot,
     Damaged,
@@ -103,28 +103,28 @@ pub enum Refusal {
 }
 
 // What start, deliver, drop and the overview answer.
-#[derive(Drop)]
+#[derive(Clone, Copy)]
 pub enum Outcome {
     Done,
     Refused(Refusal),
 }
 
 // What open and load answer.
-#[derive(Drop)]
+#[derive(Clone, Copy)]
 pub enum Opened {
     InLot(u32),
     NotOpened(Refusal),
 }
 
 // What close answers: how many pieces it installed.
-#[derive(Drop)]
+#[derive(Clone, Copy)]
 pub enum Closed {
     Pieces(u32),
     NotClosed(Refusal),
 }
 
 // What read answers.
-#[derive(Drop)]
+#[derive(Clone, Copy)]
 pub enum Found {
     Present(u32),
     Absent,
@@ -132,7 +132,7 @@ pub enum Found {
 }
 
 // What save answers: the image's length.
-#[derive(Drop)]
+#[derive(Clone, Copy)]
 pub enum Saved {
     Length(u32),
     NotSaved(Refusal),
@@ -140,7 +140,7 @@ pub enum Saved {
 
 // An answer as numbers: its own number (0 done, otherwise the refusal's) and two more. specs/Answers.antt says them for
 // each case of each answer.
-#[derive(Drop)]
+#[derive(Clone, Copy)]
 pub struct Numbers {
     pub number: u32,
     pub first: u32,

@@ -11,7 +11,7 @@ use lot::Look;
 use model::{Outcome, Refusal};
 
 // One lot's line of the overview, as the desk lends it.
-#[derive(Drop)]
+#[derive(Clone, Copy)]
 pub struct Row {
     pub account: u32,
     pub closed: u32,

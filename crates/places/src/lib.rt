@@ -42,7 +42,7 @@ pub fn insert(held: &mut [u8], start: usize, end: usize, place: &[u8])
 {
     shift(held, start, end);
     let next = start + 20;
-    bytes::copy(place, &mut held[start..next]);
+    wire::copy(place, &mut held[start..next]);
 }
 
 // Holds an entry: its 16 bytes with bytes 2-3 zero, then its epoch.
@@ -51,7 +51,7 @@ pub fn hold_entry(held: &mut [u8], n: usize, entry: &[u8], epoch: u32)
     ensures { EntryHeld held.old held.new n entry.now epoch }
 {
     let mut place = [0; 20];
-    bytes::copy(entry, &mut place);
+    wire::copy(entry, &mut place);
     wire::put16(&mut place, 2, 0);
     wire::put32(&mut place, 16, epoch);
     let p = end_of(held, n, entry[1]);

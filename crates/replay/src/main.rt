@@ -2,74 +2,118 @@
 // can after each taken entry, and prints what happened and what is there at the end. It stands on `replaying`.
 #![tactic(auto)]
 
-use libc::{STDIN_FILENO, STDOUT_FILENO};
+ghost use Rattle.std.specs.Prelude.{◌≤◌, length, IfOk};
 
-fn print(text: &[u8], length: usize) {
+use std::io::{self, Read, Write};
+use std::rt::{Stdin, Stdout};
+
+fn print(mut output: Stdout, text: &[u8], length: usize) -> io::Result<()> {
     if length <= text.len() {
-        io::write_all(STDOUT_FILENO, &text[..length]);
+        output.write_all(&text[..length])?;
     }
+    Ok(())
+}
+
+// Reads until the buffer is full or the input ends, and answers how many bytes it read.
+fn read_full(mut input: Stdin, buffer: &mut [u8]) -> io::Result<usize>
+    ensures { IfOk result (λ read. read ≤ length buffer.new) }
+{
+    let mut read = 0;
+    while read < buffer.len() {
+        let more = input.read(&mut buffer[read..])?;
+        if more == 0 {
+            break;
+        }
+        read += more;
+    }
+    Ok(read)
 }
 
 // Closes the next epoch where it can, and answers whether it did.
-fn close_next(memory: &mut [u8; lot::SIZE], account: u32, out: &mut [u8; lines::ROOM]) -> bool {
+fn close_next(
+    output: Stdout,
+    memory: &mut [u8; lot::SIZE],
+    account: u32,
+    out: &mut [u8; lines::ROOM],
+) -> io::Result<bool> {
     let length = replaying::close_next(memory, account, out);
-    print(out, length);
-    length > 0
+    print(output, out, length)?;
+    Ok(length > 0)
 }
 
 // A proved loop has to end. So this one counts its turns down, from more than there are epochs.
-fn close_while_it_can(memory: &mut [u8; lot::SIZE], account: u32, out: &mut [u8; lines::ROOM]) {
+fn close_while_it_can(
+    output: Stdout,
+    memory: &mut [u8; lot::SIZE],
+    account: u32,
+    out: &mut [u8; lines::ROOM],
+) -> io::Result<()> {
     let mut turns = u64::MAX;
-    while turns > 0 && close_next(memory, account, out) {
+    while turns > 0 && close_next(output, memory, account, out)? {
         turns -= 1;
     }
+    Ok(())
 }
 
 // Reads the next entry and delivers it, and answers whether there was one.
 fn next_entry(
+    input: Stdin,
+    output: Stdout,
     memory: &mut [u8; lot::SIZE],
     account: u32,
     index: u64,
     out: &mut [u8; lines::ROOM],
-) -> bool {
+) -> io::Result<bool> {
     let mut entry = [0u8; 16];
-    let read = io::read_full(STDIN_FILENO, &mut entry);
+    let read = read_full(input, &mut entry)?;
     if read == 0 {
-        return false;
+        return Ok(false);
     }
     let length = replaying::deliver_entry(memory, account, index, &entry[..read], out);
-    print(out, length);
+    print(output, out, length)?;
     if length == 0 {
-        close_while_it_can(memory, account, out);
+        close_while_it_can(output, memory, account, out)?;
     }
-    true
+    Ok(true)
 }
 
 // Nothing says that the input ends, so this loop too has an end that no run reaches.
-fn all_entries(memory: &mut [u8; lot::SIZE], account: u32, out: &mut [u8; lines::ROOM]) {
+fn all_entries(
+    input: Stdin,
+    output: Stdout,
+    memory: &mut [u8; lot::SIZE],
+    account: u32,
+    out: &mut [u8; lines::ROOM],
+) -> io::Result<()> {
     let mut index: u64 = 0;
-    while index < u64::MAX && next_entry(memory, account, index, out) {
+    while index < u64::MAX && next_entry(input, output, memory, account, index, out)? {
         index += 1;
     }
+    Ok(())
 }
 
-fn replay(memory: &mut [u8; lot::SIZE], out: &mut [u8; lines::ROOM]) {
+fn replay(
+    input: Stdin,
+    output: Stdout,
+    memory: &mut [u8; lot::SIZE],
+    out: &mut [u8; lines::ROOM],
+) -> io::Result<()> {
     let mut first = [0u8; 4];
-    let read = io::read_full(STDIN_FILENO, &mut first);
+    let read = read_full(input, &mut first)?;
     let header = replaying::read_header(&first[..read]);
     standby::start(memory, 1);
     let refused = replaying::open_header(memory, header, out);
-    print(out, refused);
+    print(output, out, refused)?;
     if refused > 0 {
-        return;
+        return Ok(());
     }
-    all_entries(memory, header.account, out);
+    all_entries(input, output, memory, header.account, out)?;
     let length = replaying::put_account(memory, header.account, out);
-    print(out, length);
+    print(output, out, length)
 }
 
-fn main() {
+fn main(rt: HostRuntime) -> io::Result<()> {
     let mut memory = [0u8; lot::SIZE];
     let mut out = [0u8; lines::ROOM];
-    replay(&mut memory, &mut out);
+    replay(rt.stdin(), rt.stdout(), &mut memory, &mut out)
 }

@@ -18,7 +18,7 @@ fn number_of(refusal: Refusal) -> u64
 
 // ---- the header
 
-#[derive(Drop)]
+#[derive(Clone, Copy)]
 pub struct Header {
     pub account: u32,
     pub fragments: u32,

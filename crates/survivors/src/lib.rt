@@ -27,7 +27,7 @@ fn put_place(section: &mut [u8], m: usize, place: &[u8], flag: u8)
     ensures { section.new ≡ inserted section.old (m * 20) (m * 20) (set place.now 11 flag) }
 {
     let mut flagged = [0; 20];
-    bytes::copy(place, &mut flagged);
+    wire::copy(place, &mut flagged);
     flagged[11] = flag;
     places::insert(section, m * 20, m * 20, &flagged);
 }

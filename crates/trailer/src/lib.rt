@@ -12,7 +12,7 @@ use lot::Account;
 const SIGNATURE: [u8; 4] = *b"EPB1";
 
 // The numbers in a trailer.
-#[derive(Drop)]
+#[derive(Clone, Copy)]
 pub struct Trailer {
     pub number: u16,
     pub fragments: u8,
@@ -99,5 +99,5 @@ pub fn write_trailer(bytes: &mut [u8], t: Trailer)
     write_counts(bytes, t);
     wire::put32(bytes, 12, t.closed);
     wire::put32(bytes, 16, t.length);
-    bytes::copy(&SIGNATURE, &mut bytes[20..24]);
+    wire::copy(&SIGNATURE, &mut bytes[20..24]);
 }

@@ -1,7 +1,7 @@
 // Numbers in bytes, the lowest byte first: reading and writing them in a lent slice.
 #![tactic(auto)]
 
-ghost use Rattle.std.specs.Prelude.{◌≡◌, ◌+◌, ◌*◌, ◌<◌, ◌≤◌, length};
+ghost use Rattle.std.specs.Prelude.{◌≡◌, ◌+◌, ◌*◌, ◌<◌, ◌≤◌, ◌++◌, length, drop};
 ghost use Rattle.wire.specs.Numbers.{number16, number32, with16, with32};
 
 // Bytes, the lowest first, as a number.
@@ -51,4 +51,12 @@ pub fn put32(s: &mut [u8], at: usize, v: u32)
     s[at + 1] = (v / 256 % 256) as u8;
     s[at + 2] = (v / 65536 % 256) as u8;
     s[at + 3] = (v / 16777216) as u8;
+}
+
+// Copies bytes over the first ones of a slice; those after them stay.
+pub fn copy(from: &[u8], to: &mut [u8])
+    requires { length from.now ≤ length to.old }
+    ensures { to.new ≡ from.now ++ drop (length from.now) to.old }
+{
+    to[..from.len()].copy_from_slice(from);
 }

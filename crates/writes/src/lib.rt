@@ -49,14 +49,14 @@ pub fn set_streams(lot: &mut [u8], from: &[u8])
     requires { (length lot.old ≡ SIZE) × (length from.now ≤ 64) }
     ensures { WithStreams lot.old lot.new (overwritten from.now (streams_of lot.old)) }
 {
-    bytes::copy(from, &mut lot[lot::STREAMS..lot::PLACES]);
+    wire::copy(from, &mut lot[lot::STREAMS..lot::PLACES]);
 }
 
 pub fn set_places(lot: &mut [u8], from: &[u8])
     requires { (length lot.old ≡ SIZE) × (length from.now ≤ 5120) }
     ensures { WithPlaces lot.old lot.new (overwritten from.now (places_of lot.old)) }
 {
-    bytes::copy(from, &mut lot[lot::PLACES..lot::RECORDS]);
+    wire::copy(from, &mut lot[lot::PLACES..lot::RECORDS]);
 }
 
 // ---- a whole lot
@@ -104,7 +104,7 @@ pub fn free_lot(lot: &mut [u8])
     requires { length lot.old ≡ SIZE }
     ensures { lot.new ≡ FREE ++ drop 4 lot.old }
 {
-    bytes::copy(b"FREE", lot);
+    wire::copy(b"FREE", lot);
 }
 
 // Opens an account in a lot, whatever stood there.
