@@ -67,6 +67,7 @@ pub thinned_one : {xs ys : List Held} {x : Held} {p : ℕ} → Thinned xs ys →
 thinned_one (skip m) a = let r = thinned_one m a in (suc r.0, r.1, there r.2, r.3)
 thinned_one (keep {y = y} s m) (here e) = (zero, y, here refl, equal_same e s)
 thinned_one (keep s m) (there a) = let r = thinned_one m a in (suc r.0, r.1, there r.2, r.3)
+thinned_one {p = p} (none {ys = ys}) a = elim a [ ]
 
 pub record Two (ys : List Held) (x y : Held) : Type 0 where
   pub p : ℕ
@@ -89,6 +90,7 @@ thinned_two (keep {y = y} s m) l (here e) (there b) =
     record { p = zero; q = suc r.0; first = y; second = r.1; lt = omega arith; at_p = here refl; at_q = there r.2; like_p = equal_same e s; like_q = r.3 }
 thinned_two (keep s m) l (there a) (there b) = two_later (thinned_two m (omega arith) a b)
 thinned_two (keep s m) l a (here f) = absurd (omega arith)
+thinned_two {y = y} {p = p} {q = q} (none {ys = ys}) l a b = elim a [ ]
 
 -- ---- what survives
 
@@ -128,6 +130,7 @@ keeps : (n : ℕ) (v : ℕ → Verdict) (h g : Held) (hs : List Held) → In h h
 unfolding survivors
 keeps n v h g (x ∷ hs) (Memᴰ.head e) f = Memᴰ.append_left (survivors n v hs) (f x (sym e))
 keeps n v h g (x ∷ hs) (Memᴰ.tail m) f = Memᴰ.append_right (if leb x.epoch n then left (v x.transaction) x else x ∷ []) (keeps n v h g hs m f)
+keeps n v h g [] m f = elim m [ ]
 
 pub keeps_stay : (n : ℕ) (v : ℕ → Verdict) (h : Held) (hs : List Held) → In h hs → v h.transaction ≡ stay → In h (survivors n v hs)
 unfolding left

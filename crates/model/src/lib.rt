@@ -48,6 +48,7 @@ impl Entry {
     pub const LAST_MARK: u32 = 4294967294;
 
     // The fields of 16 bytes.
+    #[tactic(auto, unfolding(crate::specs::Entry::entry_of))]
     pub fn read(bytes: &[u8]) -> Entry
         requires { LENGTH ≤ length bytes.now }
         ensures { result ≡ entry_of bytes.now }
