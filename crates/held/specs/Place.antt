@@ -17,7 +17,7 @@ unfoldable pub in_order : List ℕ → ℕ → Bool
 in_order h zero = true
 in_order h (suc i) = may_follow (item_at h i) (item_at h (suc i))
 
--- `follows` with no entries before: their epochs are compared in `in_order_law`
+-- `follows` with no entries before: their epochs are compared in `in_order`
 unfoldable pub place_fits : ℕ → ℕ → List Counters → List ℕ → ℕ → Bool
 place_fits k c ss h i =
     let e = item_at h i in

@@ -50,7 +50,7 @@ fn plain_place(held: &[u8], i: usize) -> bool
 }
 
 // A place stands in the order of streams, and in its stream of epochs, after the place before it.
-fn in_order_law(held: &[u8], i: usize) -> bool
+fn in_order(held: &[u8], i: usize) -> bool
     requires { i * 20 + 20 ≤ length held.now }
     ensures { result ≡ in_order held.now i }
 {
@@ -121,7 +121,7 @@ fn place_fits(
     let opened = open_epoch(streams, fragments, lookback::stream_at(held, i));
     let stage = lookback::stage_at(held, last);
     plain_place(held, i)
-        & in_order_law(held, i)
+        & in_order(held, i)
         & entry_fits(held, fragments, keys, i)
         & in_turn(held, closed, opened, stage, i)
 }

@@ -27,7 +27,7 @@ fn place_at(records: &[u8], i: usize) -> u32
 }
 
 // Record i comes after the one before it: by fragment, then key, without repeats.
-fn in_order_law(records: &[u8], i: usize) -> bool
+fn in_order(records: &[u8], i: usize) -> bool
     requires { i * 8 + 8 ≤ length records.now }
     ensures { result ≡ in_order records.now i }
 {
@@ -44,7 +44,7 @@ fn record_fits(records: &[u8], i: usize, fragments: u8, keys: u16) -> bool
     (records[i * 8 + 1] == 0)
         & (records[i * 8] < fragments)
         & (wire::get16(records, i * 8 + 2) < keys)
-        & in_order_law(records, i)
+        & in_order(records, i)
 }
 
 // The first n records.

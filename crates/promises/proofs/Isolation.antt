@@ -265,7 +265,7 @@ module _ (number lot : ℕ) where
       let s₁ = seen there run₁ x.kept₁ in
       let same = same_turns x.agree s₁ (seen (open_by x.agree there) run₂ x.kept₂) x.own_calls in
       let there' = still_open there s₁ in
-      record { own_turns_law = same.0; account = there'.0; open_there = there'.1; agree = same.1 }
+      record { same_own_turns = same.0; account = there'.0; open_there = there'.1; agree = same.1 }
 
   -- .. and so is a drop that follows: it is done in both, and frees the lot, or is refused in both
   pub drop_alike : {m₁ m₂ m₁' m₂' : List ℕ} {lots : ℕ} {r₁ r₂ : Reply} → Agree lot m₁ m₂ → Step m₁ (drop_account lots lot number) r₁ m₁' → Step m₂ (drop_account lots lot number) r₂ m₂' → (r₂ ≡ r₁) × Agree lot m₁' m₂'

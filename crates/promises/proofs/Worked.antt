@@ -33,13 +33,13 @@ use Rattle.promises.proofs.Order.{equal_images}
 abbrev pub memory : List ℕ
 memory = FREE ++ replicate 10316 0
 
-is_free_law : view_of memory 0 ≡ free
+lot_is_free : view_of memory 0 ≡ free
 unfolding view_of view_lot view same
-is_free_law = refl
+lot_is_free = refl
 
 pub opens_there : InLot 0 ≡ open_answer memory 1 7 2 4
 unfolding open_answer place_for memory_fits every account_fits some_below lowest_below
-opens_there = rw is_free_law
+opens_there = rw lot_is_free
 
 pub worked_run : ReachedRun 7 2 4 1 0 worked
 worked_run = every_run memory 7 2 4 1 0 worked opens_there worked_allowed

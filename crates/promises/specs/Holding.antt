@@ -27,7 +27,7 @@ pub record SameOwnCalls (number lot : ℕ) (m₁ m₂ : List ℕ) (ts₁ ts₂ :
 
 -- their own calls are answered alike, lists and buffers included, and at their ends the account is open there, the same in both
 pub record AnsweredAlike (number lot : ℕ) (m₁ m₂ : List ℕ) (ts₁ ts₂ : List Turn) : Type 0 where
-  pub own_turns_law : own_turns number lot ts₂ ≡ own_turns number lot ts₁
+  pub same_own_turns : own_turns number lot ts₂ ≡ own_turns number lot ts₁
   pub account : Account
   pub open_there : Holding number lot m₁ account
   pub agree : Agree lot m₁ m₂

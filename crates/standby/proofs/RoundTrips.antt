@@ -89,7 +89,7 @@ started_has_room {m} {m'} {lots} w account = go (memory_fits lots m) refl w.answ
           not_open = λ i h a v n. never i h (holds a) v refl;
           free_lot = 0;
           is_there = leb-true 1 lots (nth _ x 0);
-          is_free_law = w.freed.each 0 (leb-true 1 lots (nth _ x 0));
+          lot_is_free = w.freed.each 0 (leb-true 1 lots (nth _ x 0));
           none_damaged = λ i h v. never i h damaged v refl;
         }
 
@@ -108,7 +108,7 @@ free_in m i = is_free (view_of m i)
 
 module _ {m : List ℕ} {lots account : ℕ} (room : RoomFor m lots account) where
   some_free : some_below (free_in m) lots ≡ true
-  some_free = one_passes (free_in m) lots room.free_lot room.is_there (ap is_free room.is_free_law)
+  some_free = one_passes (free_in m) lots room.free_lot room.is_there (ap is_free room.lot_is_free)
 
   -- data that show the account are loaded into the free lot with the lowest number
   loads_there : (given : List ℕ) {a : Account} → load given ≡ some a → a.number ≡ account → load_answer m lots given ≡ InLot (lowest_below (free_in m) lots)

@@ -50,7 +50,7 @@ pub record RoomFor (memory : List ℕ) (lots account : ℕ) : Type 0 where
   pub not_open : (i : ℕ) → i < lots → (a : Account) → view_of memory i ≡ holds a → a.number ≢ account
   pub free_lot : ℕ
   pub is_there : free_lot < lots
-  pub is_free_law : view_of memory free_lot ≡ free
+  pub lot_is_free : view_of memory free_lot ≡ free
   pub none_damaged : (i : ℕ) → i < lots → view_of memory i ≢ damaged
 
 -- the answer is the free lot with the lowest number, which holds the account that was saved; every other byte stays

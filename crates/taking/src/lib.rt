@@ -95,7 +95,7 @@ fn hold_in(lot: &mut [u8], n: usize, bytes: &[u8], epoch: u32)
 }
 
 // The numbers of an account that holds one entry more.
-fn one_more_law(account: Account) -> Account
+fn one_more(account: Account) -> Account
     requires { account.held < 256 }
     ensures { result ≡ one_more account }
 {
@@ -120,7 +120,7 @@ pub fn take_entry(lot: &mut [u8], account: Account, bytes: &[u8])
         return;
     }
     hold_in(lot, account.held as usize, bytes, open);
-    writes::set_head(lot, one_more_law(account));
+    writes::set_head(lot, one_more(account));
 }
 
 // ---- delivering
