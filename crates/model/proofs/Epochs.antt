@@ -50,6 +50,7 @@ pub record InStream (n : ℕ) (h : Held) : Type 0 where
 
 pub in_stream : (n : ℕ) {h : Held} {p : ℕ} (es : List Entry) → At h (in_epochs n es) p → InStream n h
 unfolding in_epochs hold
+in_stream n [] x = elim x [ ]
 in_stream n {h} {p} (e ∷ es) x = go (is_mark e) refl x (λ m q. in_stream m {p = q} es)
   where
     go : {p : ℕ} (b : Bool) → is_mark e ≡ b → At h (if b then in_epochs (suc n) es else hold e n ∷ in_epochs n es) p → ((m q : ℕ) → At h (in_epochs m es) q → InStream m h) → InStream n h
@@ -60,6 +61,7 @@ in_stream n {h} {p} (e ∷ es) x = go (is_mark e) refl x (λ m q. in_stream m {p
 -- epochs do not fall
 pub rising : (n : ℕ) {h g : Held} {p q : ℕ} (es : List Entry) → At h (in_epochs n es) p → At g (in_epochs n es) q → p ≤ q → h.epoch ≤ g.epoch
 unfolding in_epochs hold
+rising n [] x y l = elim x [ ]
 rising n {h} {g} {p} {q} (e ∷ es) x y l = go (is_mark e) x y l (λ m a b. rising m {p = a} {q = b} es)
   where
     go : {p q : ℕ} (b : Bool) → At h (if b then in_epochs (suc n) es else hold e n ∷ in_epochs n es) p → At g (if b then in_epochs (suc n) es else hold e n ∷ in_epochs n es) q → p ≤ q

@@ -163,5 +163,5 @@ closed_well_formed {a} s d = record {
 pub run_well_formed : {a : Account} (ss : List Step) → WellFormed a → Allowed ss a → WellFormed (run ss a)
 unfolding run Allowed
 run_well_formed [] w d = w
-run_well_formed (taking e ∷ ss) w d = run_well_formed ss (taken_well_formed e w d.0) d.1
-run_well_formed (closing ∷ ss) w d = run_well_formed ss (closed_well_formed w d.0) d.1
+run_well_formed {a} (taking e ∷ ss) w d = run_well_formed {a = taken e a} ss (taken_well_formed e w d.0) d.1
+run_well_formed {a} (closing ∷ ss) w d = run_well_formed {a = close a} ss (closed_well_formed w d.0) d.1

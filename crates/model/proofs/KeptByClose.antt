@@ -29,7 +29,7 @@ In h hs = Memᴰ h hs
 pub stage_snoc : (t : ℕ) (s : Stage) (hs : List Held) (h : Held) → stage_from t s (hs ++ h ∷ []) ≡ (if eqb h.transaction t then stage_after h.kind else stage_from t s hs)
 unfolding stage_from
 stage_snoc t s [] h = refl
-stage_snoc t s (x ∷ hs) h = stage_snoc t _ hs h
+stage_snoc t s (x ∷ hs) h = stage_snoc t (if eqb x.transaction t then stage_after x.kind else s) hs h
 
 -- prepared means that a P is held
 prepared_has : (t : ℕ) (s : Stage) (hs : List Held) → is_prepared s ≡ false → is_prepared (stage_from t s hs) ≡ true → any (is P t) hs ≡ true
@@ -210,6 +210,7 @@ module _ (f k i c o : ℕ) where
     all_there : {x : Held} → In x earlier → In x (before ++ hs)
 
   placed : {g : Held} (before hs : List Held) → stream_fits f k i c o before hs ≡ true → In g hs → Placed before hs g
+  placed before [] w m = elim m [ ]
   placed before (h ∷ hs) w (Memᴰ.head e) =
       let r = first before h hs w in
       record { earlier = before; fits = rw e r.fits; place = rw e r.place; all_before = λ m. m; all_there = Memᴰ.append_left (h ∷ hs) }

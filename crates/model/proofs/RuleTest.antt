@@ -46,6 +46,7 @@ some_at t p (h ∷ hs) = t p h || some_at t (suc p) hs
 
 all_at_law : (t : ℕ → Held → Bool) (n : ℕ) {h : Held} {p : ℕ} (hs : List Held) → all_at t n hs ≡ true → At h hs p → t (n + p) h ≡ true
 unfolding all_at
+all_at_law t n [] w a = elim a [ ]
 all_at_law t n (x ∷ xs) w (here e) = let z : n + 0 ≡ n = omega arith in rw (e, z) (and_l _ _ w)
 all_at_law t n (x ∷ xs) w (there {p = p} a) = let z : n + suc p ≡ suc n + p = omega arith in rw z (all_at_law t (suc n) xs (and_r (t n x) _ w) a)
 

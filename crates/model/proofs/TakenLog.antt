@@ -66,6 +66,7 @@ pub record Tabled (i : ℕ) (L : List Held) : Type 0 where
 
 at_snoc : {h y : Held} {p : ℕ} (xs : List Held) → At h (xs ++ y ∷ []) p → (At h xs p) ⊎ ((h ≡ y) × (p ≡ length xs))
 at_snoc [] (here e) = inr (e, refl)
+at_snoc [] (there a) = elim a [ ]
 at_snoc (x ∷ xs) (here e) = inl (here e)
 at_snoc {h} {y} (x ∷ xs) (there {p = p} a) = go (at_snoc xs a)
   where

@@ -91,7 +91,7 @@ in_picked E (e ∷ es) u m = go (E e) refl m (in_picked E es u)
     go true t m ih = cases t ih (Memᴰ.cases_cons m)
     go false t m ih = rest ih m
 
-pub picked_in : (E : Held → Bool) {es : List Held} {e : Held} {p : ℕ} → At e es p → E e ≡ true → Memᴰ e.transaction (picked E es)
+pub picked_in : (E : Held → Bool) {e : Held} {es : List Held} {p : ℕ} → At e es p → E e ≡ true → Memᴰ e.transaction (picked E es)
 unfolding picked filter
 picked_in E (here {x = x} q) t = rw (sym (ap E q) ∙ t) (Memᴰ.head (ap (λ r. r.transaction) q))
 picked_in E (there {x = x} {xs = xs} a) t = go (E x) (picked_in E a t)
