@@ -2,12 +2,8 @@
 use mathlib.Core.Bool.{and-true, and_assoc}
 use Rattle.model.specs.Lists.{every}
 use Rattle.model.specs.Entry.{fields_fit}
-use Rattle.entry.proofs.fields_fit.Statement.{statement}
-use Rattle.entry.proofs.fields_fit.Tie as tie
+use Rattle.entry.proofs.fields_fit.Goals as goal
 
-returns : tie.Need-returns
+pub returns : goal.returns
 unfolding fields_fit every
 returns c = simp (and_assoc, and-true)
-
-pub fields-fit-spec : {M : Type 1} → statement M
-fields-fit-spec = tie.close (tie.spec returns)

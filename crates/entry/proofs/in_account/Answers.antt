@@ -2,12 +2,8 @@
 use mathlib.Core.Bool.{and-true, and_assoc}
 use Rattle.model.specs.Lists.{every}
 use Rattle.model.specs.Entry.{in_account}
-use Rattle.entry.proofs.in_account.Statement.{statement}
-use Rattle.entry.proofs.in_account.Tie as tie
+use Rattle.entry.proofs.in_account.Goals as goal
 
-returns : tie.Need-returns
+pub returns : goal.returns
 unfolding in_account every
 returns c = simp (and_assoc, and-true)
-
-pub in-account-spec : {M : Type 1} → statement M
-in-account-spec = tie.close (tie.spec returns)

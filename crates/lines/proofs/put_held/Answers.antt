@@ -1,0 +1,10 @@
+-- Held: its words and numbers are written one after the other. Assumes nothing.
+use native.Mathlib.Omega.{arith}
+use Rattle.lines.proofs.Writing.{wrote_more}
+use Rattle.lines.specs.Lines.{held_line}
+use borrow.Author.Rules.{rules}
+use Rattle.lines.proofs.put_held.Goals as goal
+
+pub returns : goal.returns
+unfolding held_line
+returns c = (wrote_more c.put_word-after_held.ensures c.put_last.ensures.0, omega arith)

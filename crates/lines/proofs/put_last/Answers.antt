@@ -1,0 +1,8 @@
+-- Last: its words and numbers are written one after the other. Assumes nothing.
+use native.Mathlib.Omega.{arith}
+use Rattle.lines.proofs.Writing.{wrote_more}
+use borrow.Author.Rules.{rules}
+use Rattle.lines.proofs.put_last.Goals as goal
+
+pub returns : goal.returns
+returns c = (wrote_more c.put_number-end.ensures.0 c.put_byte.ensures, omega (arith, c.put_byte.ensures.ends))
