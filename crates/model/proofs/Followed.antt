@@ -7,7 +7,7 @@ use mathlib.Core.List.{List, [], ◌∷◌, ◌++◌, append_assoc, append-nil}
 use native.Mathlib.Omega.{arith}
 use native.Mathlib.Decide.{dec_lt, ℕ_discrete}
 use lib.Dec.{eqb}
-use Rattle.model.specs.Lists.{if◌then◌else◌}
+use Rattle.std.specs.Prelude.{if◌then◌else◌}
 use Rattle.model.specs.Entry.{is_mark, DELETE, P, CC, A}
 use Rattle.model.specs.Account.{Held, Fragment, Account, fresh, empty}
 use Rattle.model.specs.Taking.{hold, take, taken, stepped}
