@@ -10,7 +10,8 @@ use lib.ListN.{length, get_or, length-append}
 use lib.Seq.{ext_get_or}
 use lib.Dec.{eqb}
 use borrow.Author.Tests.{eq-eqb, ne_eqb}
-use Rattle.model.specs.Lists.{if◌then◌else◌, filter, all, upward, sum_below}
+use Rattle.std.specs.Prelude.{if◌then◌else◌}
+use Rattle.model.specs.Lists.{filter, all, upward, sum_below}
 use Rattle.model.proofs.Tests.{and_l, and_r}
 
 module _ {X : Type 0} where

@@ -7,19 +7,19 @@ use mathlib.Core.List.{List, [], ◌∷◌, ◌++◌, append_assoc, append-nil}
 use native.Mathlib.Omega.{arith}
 use native.Mathlib.Decide.{dec_lt, ℕ_discrete}
 use lib.Dec.{eqb}
-use Rattle.model.specs.Lists.{if◌then◌else◌}
+use Rattle.std.specs.Prelude.{if◌then◌else◌}
 use Rattle.model.specs.Entry.{is_mark, DELETE, P, CC, A}
 use Rattle.model.specs.Account.{Held, Fragment, Account, fresh, empty}
 use Rattle.model.specs.Taking.{hold, take, taken, stepped}
 use Rattle.model.specs.Closing.{close, settle}
 use Rattle.model.specs.Runs.{Step, taking, closing, run, Allowed, log, closings}
-use Rattle.model.specs.Rules.{in_epochs, At, here, there, Stands, LogRules}
+use Rattle.model.specs.Rules.{in_epochs, At, Stands, LogRules}
 use Rattle.model.specs.Installed.{Follows}
 use Rattle.model.specs.declared.Entry.{Entry}
 use Rattle.model.proofs.Judged.{all_marked}
 use Rattle.model.proofs.Runs.{take_list, take_all, closes, closes_closed, run_is_law, log_outside}
 use Rattle.model.proofs.Prefix.{closes_epoch, closes_fragments}
-use Rattle.model.proofs.Working.{In, streams, Kept, Ordered, in_at, at_in}
+use Rattle.model.proofs.Working.{In, Kept, Ordered, in_at, at_in}
 use Rattle.model.proofs.Epochs.{epoch_after, InStream, in_stream, rising, at_below, at_whole, at_part, cut}
 use Rattle.model.proofs.TakenLog.{Tabled, tabled}
 

@@ -10,7 +10,8 @@ use lib.ListN.{length, take, length-append, take-append-drop}
 use lib.Dec.{leb, eqb}
 use borrow.Author.Tests.{eqb-true, eq-eqb, leb-true, le-leb}
 use Rattle.wire.specs.Numbers.{number32}
-use Rattle.model.specs.Lists.{if◌then◌else◌, upward, sum_below}
+use Rattle.std.specs.Prelude.{if◌then◌else◌}
+use Rattle.model.specs.Lists.{upward, sum_below}
 use Rattle.model.specs.Account.{Record, absent, present, Account, fresh, held_count, account_fits}
 use Rattle.model.specs.Accepting.{WellFormed, Accepted}
 use Rattle.model.specs.Image.{Present, shown, form, bytes, image, LONGEST_IMAGE}

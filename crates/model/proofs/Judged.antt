@@ -6,7 +6,8 @@ use native.Mathlib.Omega.{arith}
 use native.Mathlib.Decide.{dec_lt}
 use lib.Dec.{leb, eqb}
 use borrow.Author.Tests.{ltb-true, leb-false, eqb-true, not-false}
-use Rattle.model.specs.Lists.{if◌then◌else◌, sum_below, one, count_below}
+use Rattle.std.specs.Prelude.{if◌then◌else◌}
+use Rattle.model.specs.Lists.{sum_below, one, count_below}
 use Rattle.model.specs.Entry.{is_mark, fits, inside, in_account}
 use Rattle.model.specs.Distance.{distance, below_zero, above_zero}
 use Rattle.model.specs.Account.{Account, held_count, MOST_HELD}

@@ -9,7 +9,8 @@ use native.Mathlib.Decide.{dec_lt}
 use lib.ListN.{length, length-append}
 use lib.Dec.{leb, ltb, eqb}
 use borrow.Author.Tests.{eq-eqb, ne_eqb, eqb-true, leb-true, le-leb, ltb-true, eqb-false}
-use Rattle.model.specs.Lists.{if◌then◌else◌, filter, any, every}
+use Rattle.std.specs.Prelude.{if◌then◌else◌}
+use Rattle.model.specs.Lists.{filter, any, every}
 use Rattle.model.specs.Entry.{is_mark, fields_fit, fits, in_account, inside, MARK, A, DELETE, P}
 use Rattle.model.specs.Account.{Held, key, Record, absent, Account, empty, account_fits, fresh, held_count, MOST_HELD}
 use Rattle.model.specs.Taking.{judge_entry, stepped, hold, take, taken}

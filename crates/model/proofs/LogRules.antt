@@ -11,7 +11,7 @@ use borrow.Author.Tests.{leb-true}
 use Rattle.model.specs.Lists.{any}
 use Rattle.model.specs.Entry.{PUT, DELETE, P, CC, CP}
 use Rattle.model.specs.Account.{Held, Record, absent, Account, empty, fresh}
-use Rattle.model.specs.Closing.{Piece, installed, listed, writes_to, after_writes}
+use Rattle.model.specs.Closing.{Piece, listed, writes_to, after_writes}
 use Rattle.model.specs.Runs.{Step, run, lists, log}
 use Rattle.model.specs.Rules.{in_epochs, At, Stands, Is, LogRules}
 use Rattle.model.specs.Installed.{has_piece, listed_at, is_installed, Follows}

@@ -9,7 +9,8 @@ use native.Mathlib.Omega.{arith}
 use native.Mathlib.Decide.{dec_le}
 use lib.Dec.{eqb}
 use borrow.Author.Tests.{eq-eqb}
-use Rattle.model.specs.Lists.{if◌then◌else◌, filter, any}
+use Rattle.std.specs.Prelude.{if◌then◌else◌}
+use Rattle.model.specs.Lists.{filter, any}
 use Rattle.model.specs.Entry.{P, CC, CP, A}
 use Rattle.model.specs.Account.{Held, coordinator, Account}
 use Rattle.model.specs.Closing.{upto, is, flagged_p, unflagged_p, Verdict, free, install, stay, verdict, committed, installs, flags, with_flag, survivors, settle, close, installed}

@@ -5,7 +5,8 @@ use mathlib.Core.Bool.{Bool, true, false, not, ◌&&◌, and-true, and_self, and
 use mathlib.Core.List.{List, [], ◌∷◌, ◌++◌}
 use lib.Dec.{leb, eqb}
 use borrow.Author.Tests.{eqb-true}
-use Rattle.model.specs.Lists.{if◌then◌else◌, filter, any}
+use Rattle.std.specs.Prelude.{if◌then◌else◌}
+use Rattle.model.specs.Lists.{filter, any}
 use Rattle.model.specs.Entry.{P, CC, CP, A}
 use Rattle.model.specs.Account.{Held, coordinator}
 use Rattle.model.specs.Closing.{upto, is, flagged_p, unflagged_p, Verdict, free, install, flag, stay, verdict, committed, with_flag, left, survivors}

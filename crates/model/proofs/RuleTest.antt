@@ -9,7 +9,8 @@ use native.Mathlib.Decide.{ℕ_discrete}
 use lib.Dec.{leb, ltb, eqb}
 use lib.ListN.{get_or}
 use borrow.Author.Tests.{eq-eqb, ne_eqb, eqb-true, lt-ltb, ltb-true, le-leb, leb-true}
-use Rattle.model.specs.Lists.{if◌then◌else◌, every}
+use Rattle.std.specs.Prelude.{if◌then◌else◌}
+use Rattle.model.specs.Lists.{every}
 use Rattle.model.specs.Entry.{PUT, DELETE, P, CC, CP, A}
 use Rattle.model.specs.Account.{Held, key, coordinator}
 use Rattle.model.specs.Rules.{in_epochs, At, here, there, Stands, Is, Ends, LogRules}

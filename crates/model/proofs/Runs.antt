@@ -7,7 +7,8 @@ use native.Mathlib.Omega.{arith}
 use native.Mathlib.Decide.{dec_lt}
 use lib.Dec.{eqb}
 use borrow.Author.Tests.{lt-leb, ne_eqb}
-use Rattle.model.specs.Lists.{if◌then◌else◌, filter, any, upward}
+use Rattle.std.specs.Prelude.{if◌then◌else◌}
+use Rattle.model.specs.Lists.{filter, any, upward}
 use Rattle.model.specs.Entry.{CC, is_mark}
 use Rattle.model.specs.Account.{Held, Fragment, Account}
 use Rattle.model.specs.Taking.{stepped, hold, take, taken}

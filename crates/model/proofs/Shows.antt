@@ -7,7 +7,8 @@ use native.Mathlib.Omega.{arith}
 use lib.ListN.{length}
 use lib.Dec.{leb, ltb, eqb}
 use borrow.Author.Tests.{eqb-true, leb-true, ltb-true}
-use Rattle.model.specs.Lists.{if◌then◌else◌, filter, all, every, upward}
+use Rattle.std.specs.Prelude.{if◌then◌else◌}
+use Rattle.model.specs.Lists.{filter, all, every, upward}
 use Rattle.model.specs.Entry.{in_account}
 use Rattle.model.specs.Account.{Held, present, fresh_counters, account_fits}
 use Rattle.model.specs.Accepting.{entry_fits}

@@ -8,7 +8,8 @@ use mathlib.Core.List.{List, [], ◌∷◌, ◌++◌}
 use native.Mathlib.Omega.{arith}
 use lib.Dec.{leb, eqb}
 use borrow.Author.Tests.{le-leb, leb-false, eqb-true}
-use Rattle.model.specs.Lists.{if◌then◌else◌, filter}
+use Rattle.std.specs.Prelude.{if◌then◌else◌}
+use Rattle.model.specs.Lists.{filter}
 use Rattle.model.specs.Entry.{P}
 use Rattle.model.specs.Account.{Held}
 use Rattle.model.specs.Closing.{Verdict, free, install, flag, stay, with_flag, left, survivors}

@@ -9,7 +9,7 @@ use native.Mathlib.Omega.{arith}
 use lib.Dec.{leb, eqb}
 use lib.ListN.{length}
 use borrow.Author.Tests.{eqb-true, eqb-false, leb-true, eq-eqb}
-use Rattle.model.specs.Lists.{if◌then◌else◌}
+use Rattle.std.specs.Prelude.{if◌then◌else◌}
 use Rattle.model.specs.Entry.{is_mark, fits, fields_fit, inside, in_account, DELETE, P, CP, A, MARK}
 use Rattle.model.specs.Account.{Held, coordinator, Account, fresh}
 use Rattle.model.specs.Stages.{stage_after, stage_from, stage, takes}

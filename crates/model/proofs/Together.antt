@@ -7,7 +7,8 @@ use mathlib.Core.List.{List, [], ◌∷◌, map}
 use native.Mathlib.Omega.{arith}
 use lib.Dec.{leb, eqb}
 use borrow.Author.Tests.{le-leb, leb-true, eqb-true, eq-eqb}
-use Rattle.model.specs.Lists.{if◌then◌else◌, filter, any}
+use Rattle.std.specs.Prelude.{if◌then◌else◌}
+use Rattle.model.specs.Lists.{filter, any}
 use Rattle.model.specs.Entry.{P, CC, CP, A}
 use Rattle.model.specs.Account.{Held, coordinator, Account}
 use Rattle.model.specs.Closing.{upto, is, flagged_p, unflagged_p, Verdict, free, install, flag, stay, verdict, committed, installs, flags, pieces, settle, close, installed}

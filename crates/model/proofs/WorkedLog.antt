@@ -4,7 +4,8 @@ use mathlib.Core.Path.{◌≡◌, refl, sym}
 use mathlib.Core.Bool.{true}
 use mathlib.Core.List.{List, [], append-nil}
 use lib.Dec.{eqb}
-use Rattle.model.specs.Lists.{if◌then◌else◌, every}
+use Rattle.std.specs.Prelude.{if◌then◌else◌}
+use Rattle.model.specs.Lists.{every}
 use Rattle.model.specs.Taking.{hold}
 use Rattle.model.specs.Runs.{log}
 use Rattle.model.specs.Rules.{in_epochs, LogRules}

@@ -1,6 +1,6 @@
 -- Closing epoch n, the one after the last closed.
-use Rattle.std.specs.Prelude.{ℕ, suc, Bool, true, false, not, ◌&&◌, ◌||◌, List, [], ◌∷◌, ◌++◌, map, leb, ltb, eqb, length}
-use Rattle.model.specs.Lists.{if◌then◌else◌, filter, any, upward, count_below, bits_of}
+use Rattle.std.specs.Prelude.{ℕ, suc, Bool, true, false, not, ◌&&◌, ◌||◌, List, [], ◌∷◌, ◌++◌, map, leb, ltb, eqb, length, if◌then◌else◌}
+use Rattle.model.specs.Lists.{filter, any, upward, count_below, bits_of}
 use Rattle.model.specs.Entry.{PUT, DELETE, P, CC, CP, A}
 use Rattle.model.specs.Account.{Held, key, coordinator, Record, absent, present, Fragment, Account, Named, refused, found}
 use Rattle.model.specs.declared.Outcome.{Outcome}

@@ -1,8 +1,8 @@
 -- How load finds the account: the trailer is followed back, and what is read is tested. That this decides what specs/Accepting.antt says is proved.
-use Rattle.std.specs.Prelude.{ℕ, zero, suc, ◌+◌, ◌*◌, ◌-◌, Bool, true, false, ◌&&◌, List, [], ◌∷◌, ◌++◌, leb, ltb, eqb, length, get_or, drop}
+use Rattle.std.specs.Prelude.{ℕ, zero, suc, ◌+◌, ◌*◌, ◌-◌, Bool, true, false, ◌&&◌, List, [], ◌∷◌, ◌++◌, leb, ltb, eqb, length, get_or, drop, if◌then◌else◌}
 use Rattle.std.proofs.Math.Option.{Option, some, none}
 use Rattle.wire.specs.Numbers.{number16, number32}
-use Rattle.model.specs.Lists.{if◌then◌else◌, every, all}
+use Rattle.model.specs.Lists.{every, all}
 use Rattle.model.specs.Account.{Held, Record, absent, present, Account, fresh_counters, account_fits, MOST_HELD}
 use Rattle.model.specs.Stages.{stage}
 use Rattle.model.specs.Accepting.{entry_fits, follows}

@@ -1,6 +1,5 @@
 -- The signed distance of sequence numbers.
-use Rattle.std.specs.Prelude.{ℕ, zero, suc, ◌+◌, ◌-◌, ◌%◌, Bool, true, false, ltb, ℤ, pos, negsuc}
-use Rattle.model.specs.Lists.{if◌then◌else◌}
+use Rattle.std.specs.Prelude.{ℕ, zero, suc, ◌+◌, ◌-◌, ◌%◌, Bool, true, false, ltb, ℤ, pos, negsuc, if◌then◌else◌}
 
 -- the received number less the expected one, modulo 65,536
 abbrev pub difference : ℕ → ℕ → ℕ

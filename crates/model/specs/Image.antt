@@ -1,5 +1,5 @@
 -- The saved image of an account. Between account and bytes stands what the image shows, in its order.
-use Rattle.std.specs.Prelude.{ℕ, zero, ◌+◌, List, [], ◌∷◌, ◌++◌, map, length}
+use Rattle.std.specs.Prelude.{ℕ, ◌+◌, List, [], ◌∷◌, ◌++◌, map, length}
 use Rattle.wire.specs.Numbers.{bytes16, bytes32}
 use Rattle.model.specs.Lists.{upward, one}
 use Rattle.model.specs.Account.{Held, Record, absent, present, Account}

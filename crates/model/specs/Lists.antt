@@ -1,10 +1,6 @@
--- What the other pages share: choosing by a test, and tests and sums over lists and numbers.
+-- What the other pages share: tests and sums over lists and numbers.
 use Rattle.std.specs.Prelude.{ℕ, zero, suc, ◌+◌, ◌*◌, ◌^◌, Bool, true, false, ◌&&◌, ◌||◌, List, [], ◌∷◌, ◌++◌}
-
-infix 20 if◌then◌else◌
-abbrev pub if◌then◌else◌ {ℓ} : {X : Type ℓ} → Bool → X → X → X
-if true then x else y = x
-if false then x else y = y
+pub use Rattle.std.specs.Prelude.{if◌then◌else◌}
 
 module _ {X : Type 0} where
   -- those that pass, in their order

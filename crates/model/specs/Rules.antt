@@ -1,6 +1,5 @@
 -- What the primary must keep: the five log rules, over the whole streams that it wrote, of which the taken entries are a first part.
-use Rattle.std.specs.Prelude.{ℕ, zero, suc, ◌≤◌, ◌<◌, ◌≡◌, ◌≢◌, List, [], ◌∷◌, ◌++◌}
-use Rattle.model.specs.Lists.{if◌then◌else◌}
+use Rattle.std.specs.Prelude.{ℕ, zero, suc, ◌≤◌, ◌<◌, ◌≡◌, ◌≢◌, List, [], ◌∷◌, ◌++◌, if◌then◌else◌}
 use Rattle.model.specs.Entry.{is_mark, PUT, DELETE, P, CC, CP, A}
 use Rattle.model.specs.Account.{Held, key, coordinator}
 use Rattle.model.specs.Taking.{hold}

@@ -1,6 +1,5 @@
 -- Runs of one account: entries taken and epochs closed, in any order.
-use Rattle.std.specs.Prelude.{ℕ, zero, suc, ◌≡◌, List, [], ◌∷◌, eqb}
-use Rattle.model.specs.Lists.{if◌then◌else◌}
+use Rattle.std.specs.Prelude.{ℕ, zero, suc, ◌≡◌, List, [], ◌∷◌, eqb, if◌then◌else◌}
 use Rattle.model.specs.Account.{Account}
 use Rattle.model.specs.Taking.{judge_entry, taken}
 use Rattle.model.specs.Closing.{judge_close, close, Piece, listed}

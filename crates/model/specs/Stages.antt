@@ -1,6 +1,5 @@
 -- The stage of a transaction in a stream, and the table of the kinds that each stage takes.
-use Rattle.std.specs.Prelude.{ℕ, Bool, true, false, ◌||◌, List, [], ◌∷◌, leb, eqb}
-use Rattle.model.specs.Lists.{if◌then◌else◌}
+use Rattle.std.specs.Prelude.{ℕ, Bool, true, false, ◌||◌, List, [], ◌∷◌, leb, eqb, if◌then◌else◌}
 use Rattle.model.specs.Entry.{DELETE, P, CC, CP, A}
 use Rattle.model.specs.Account.{Held}
 use Rattle.model.specs.declared.Stage.{Stage}

@@ -1,6 +1,5 @@
 -- Taking an entry: what deliver judges, and what a taken entry changes.
-use Rattle.std.specs.Prelude.{ℕ, suc, Bool, false, not, ◌&&◌, List, [], ◌∷◌, ◌++◌, leb, eqb, length}
-use Rattle.model.specs.Lists.{if◌then◌else◌}
+use Rattle.std.specs.Prelude.{ℕ, suc, Bool, false, not, ◌&&◌, List, [], ◌∷◌, ◌++◌, leb, eqb, length, if◌then◌else◌}
 use Rattle.model.specs.Entry.{LENGTH, entry_of, is_mark, fits, inside}
 use Rattle.model.specs.Distance.{distance, below_zero, above_zero, after}
 use Rattle.model.specs.Account.{Held, Fragment, Account, held_count, MOST_HELD, Named, refused, found}
