@@ -1,6 +1,6 @@
 -- What each judgement of a sequence number says of the distance's sign. Assumes nothing.
 use Rattle.std.proofs.Common.{◌≡◌, ℕ, Bool, true, false, refl}
-use Rattle.model.specs.Lists.{if◌then◌else◌}
+use Rattle.std.specs.Prelude.{if◌then◌else◌}
 use Rattle.model.specs.Distance.{distance, below_zero, above_zero}
 use Rattle.entry.specs.Sequence.{sequence_of}
 use Rattle.entry.specs.declared.Sequence.{Sequence}

@@ -1,6 +1,5 @@
 -- Where a received sequence number stands, by the sign of its distance.
-use Rattle.std.specs.Prelude.{ℕ}
-use Rattle.model.specs.Lists.{if◌then◌else◌}
+use Rattle.std.specs.Prelude.{ℕ, if◌then◌else◌}
 use Rattle.model.specs.Distance.{distance, below_zero, above_zero}
 use Rattle.entry.specs.declared.Sequence.{Sequence}
 use Rattle.entry.specs.declared.Sequence.TheVariants.{Due, Seen, Gap}

@@ -10,7 +10,7 @@ use lib.ListN.{length, get_or, take, drop}
 use lib.Seq.{drop-drop}
 use borrow.Author.Tests.{eq-eqb, ne_eqb}
 use Rattle.wire.specs.Numbers.{number16, number32}
-use Rattle.model.specs.Lists.{if◌then◌else◌}
+use Rattle.std.specs.Prelude.{if◌then◌else◌}
 use Rattle.model.specs.Account.{Record, present}
 use Rattle.model.specs.Image.{Present}
 use Rattle.model.specs.Decoding.{present_of, parse, find}

@@ -9,7 +9,8 @@ use native.Mathlib.Decide.{ℕ_discrete, dec_lt}
 use borrow.Author.Tests.{eq-eqb, ne_eqb, eqb-true, lt-ltb, le-ltb}
 use lib.Dec.{ltb, eqb}
 use lib.ListN.{length, get_or, set, length-append, length-set}
-use Rattle.model.specs.Lists.{if◌then◌else◌, sum_below}
+use Rattle.std.specs.Prelude.{if◌then◌else◌}
+use Rattle.model.specs.Lists.{sum_below}
 use Rattle.model.specs.Account.{Record}
 use Rattle.model.specs.Entry.{P, CC, CP}
 use Rattle.model.proofs.Tests.{and_l}

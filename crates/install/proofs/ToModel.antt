@@ -9,7 +9,8 @@ use native.Mathlib.Decide.{ℕ_discrete}
 use borrow.Author.Tests.{eq-eqb, ne_eqb, eqb-true, le-leb, lt-leb, leb-true, leb-false}
 use lib.Dec.{leb, eqb}
 use lib.ListN.{length, get_or, length-append}
-use Rattle.model.specs.Lists.{if◌then◌else◌, filter, sum_below}
+use Rattle.std.specs.Prelude.{if◌then◌else◌}
+use Rattle.model.specs.Lists.{filter, sum_below}
 use Rattle.model.specs.Entry.{DELETE, P, CC, CP}
 use Rattle.model.specs.Account.{Held, Record}
 use Rattle.model.specs.Closing.{upto, Verdict, free, install, flag, stay, verdict, committed, installs, flags, pieces, writes_to, written, after_writes, apply}

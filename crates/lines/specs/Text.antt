@@ -1,7 +1,6 @@
 -- Text is a list of ASCII codes. The decimal text of a number, and a text written in a lent buffer.
-use Rattle.std.specs.Prelude.{ℕ, zero, suc, ◌+◌, ◌/◌, ◌%◌, ◌≡◌, List, [], ◌∷◌, ◌++◌, ltb, length}
+use Rattle.std.specs.Prelude.{ℕ, zero, suc, ◌+◌, ◌/◌, ◌%◌, ◌≡◌, List, [], ◌∷◌, ◌++◌, ltb, length, if◌then◌else◌}
 use Rattle.std.proofs.lemmas.List.Edits.{sets}
-use Rattle.model.specs.Lists.{if◌then◌else◌}
 
 -- how many bytes a lent buffer has: more than the longest text of one call
 abbrev pub ROOM : ℕ

@@ -10,7 +10,7 @@ use borrow.Author.Count.{below_more, below_none}
 use lib.Dec.{eqb}
 use lib.ListN.{length, get_or, set, replicate, get_or-replicate, length-set}
 use lib.Seq.{get_or-set_same, get_or-set_other}
-use Rattle.model.specs.Lists.{if◌then◌else◌}
+use Rattle.std.specs.Prelude.{if◌then◌else◌}
 use Rattle.model.proofs.Tests.{and_l, and_r}
 use Rattle.model.specs.Section.{item_at}
 use Rattle.lookback.specs.Last.{last_with, is_of, Lasts, bucket_of, bucket_at, in_bucket, Chained, Indexed, Ready}

@@ -9,7 +9,7 @@ use lib.Dec.{eqb}
 use lib.ListN.{length, get_or, drop}
 use lib.Seq.{get_or-drop, drop-drop}
 use Rattle.wire.specs.Numbers.{number16, number32}
-use Rattle.model.specs.Lists.{if◌then◌else◌}
+use Rattle.std.specs.Prelude.{if◌then◌else◌}
 use Rattle.model.specs.Decoding.{item_of, parse, mine}
 use Rattle.model.specs.Stages.{stage_after, stage_from, stage}
 use Rattle.model.specs.declared.Stage.TheVariants.{Unheard}

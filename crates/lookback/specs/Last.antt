@@ -1,6 +1,5 @@
 -- The last earlier place with a stream and a transaction, and the buckets in which it is looked for.
-use Rattle.std.specs.Prelude.{ℕ, zero, suc, ◌+◌, ◌*◌, ◌/◌, ◌%◌, ◌<◌, ◌≤◌, ◌≡◌, Bool, ◌&&◌, List, eqb, length, get_or}
-use Rattle.model.specs.Lists.{if◌then◌else◌}
+use Rattle.std.specs.Prelude.{ℕ, zero, suc, ◌+◌, ◌*◌, ◌/◌, ◌%◌, ◌<◌, ◌≤◌, ◌≡◌, Bool, ◌&&◌, List, eqb, length, get_or, if◌then◌else◌}
 use Rattle.model.specs.Section.{item_at}
 
 -- one more than the last number below n that passes the test, or 0

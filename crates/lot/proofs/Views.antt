@@ -9,7 +9,8 @@ use lib.Dec.{ltb}
 use lib.ListN.{length, get_or, drop, length-map}
 use borrow.Author.Tests.{eqb-true, eq-eqb, leb-true, le-leb, ltb-true, lt-ltb, le-ltb}
 use Rattle.wire.specs.Numbers.{number16, number32}
-use Rattle.model.specs.Lists.{if◌then◌else◌, every, upward, sum_below}
+use Rattle.std.specs.Prelude.{if◌then◌else◌}
+use Rattle.model.specs.Lists.{every, upward, sum_below}
 use Rattle.model.specs.Account.{absent, Account, empty, fresh_counters, held_count}
 use Rattle.model.specs.Accepting.{WellFormed}
 use Rattle.model.specs.Image.{Item}

@@ -1,7 +1,7 @@
 -- What the bytes of a lot mean: it is free, damaged, or holds an account.
-use Rattle.std.specs.Prelude.{ℕ, zero, suc, ◌+◌, ◌*◌, Bool, true, ◌&&◌, List, [], ◌∷◌, leb, ltb, eqb, get_or, take, drop}
+use Rattle.std.specs.Prelude.{ℕ, zero, suc, ◌+◌, ◌*◌, Bool, true, ◌&&◌, List, [], ◌∷◌, leb, ltb, eqb, get_or, take, drop, if◌then◌else◌}
 use Rattle.wire.specs.Numbers.{number16, number32}
-use Rattle.model.specs.Lists.{if◌then◌else◌, every}
+use Rattle.model.specs.Lists.{every}
 use Rattle.model.specs.Account.{Record, absent, present, Fragment, Account, empty, account_fits, MOST_HELD, Named, refused, found}
 use Rattle.model.specs.declared.Refusal.TheVariants.{Damaged, NotThisAccount}
 use Rattle.model.specs.Decoding.{counters_of, item_of, parse, mine, same}

@@ -1,6 +1,5 @@
 -- What the calls learn from one look at a lot: the numbers of an account stand for the account.
-use Rattle.std.specs.Prelude.{ℕ, Bool, true, false, ◌||◌, List, eqb}
-use Rattle.model.specs.Lists.{if◌then◌else◌}
+use Rattle.std.specs.Prelude.{ℕ, Bool, true, false, ◌||◌, List, eqb, if◌then◌else◌}
 use Rattle.model.specs.Account as model
 use Rattle.model.specs.Account.{Named, refused, found}
 use Rattle.model.specs.declared.Refusal.TheVariants as refusal

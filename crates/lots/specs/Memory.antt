@@ -1,6 +1,6 @@
 -- Lots in lent memory, and what a call finds there.
-use Rattle.std.specs.Prelude.{ℕ, zero, suc, ◌+◌, ◌*◌, ◌<◌, ◌≡◌, Bool, true, false, not, ◌&&◌, ◌||◌, List, [], ◌∷◌, leb, ltb, eqb, length, take, drop}
-use Rattle.model.specs.Lists.{if◌then◌else◌, every}
+use Rattle.std.specs.Prelude.{ℕ, zero, suc, ◌+◌, ◌*◌, ◌<◌, ◌≡◌, Bool, true, false, not, ◌&&◌, ◌||◌, List, [], ◌∷◌, leb, ltb, eqb, length, take, drop, if◌then◌else◌}
+use Rattle.model.specs.Lists.{every}
 use Rattle.model.specs.Account.{Named, refused}
 use Rattle.model.specs.declared.Refusal.TheVariants.{NoSuchLot}
 use Rattle.lot.specs.Layout.{SIZE}

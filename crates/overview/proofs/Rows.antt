@@ -8,7 +8,8 @@ use native.Mathlib.Omega.{arith}
 use lib.Dec.{ltb}
 use lib.ListN.{length, set, drop, length-set}
 use borrow.Author.Tests.{ltb-false}
-use Rattle.model.specs.Lists.{if◌then◌else◌, upward}
+use Rattle.std.specs.Prelude.{if◌then◌else◌}
+use Rattle.model.specs.Lists.{upward}
 use Rattle.model.specs.declared.Outcome.TheVariants.{Done, Refused}
 use Rattle.model.specs.declared.Refusal.TheVariants.{NoSuchLot, TooShort}
 use Rattle.lot.specs.Layout.{SIZE}

@@ -1,6 +1,6 @@
 -- What the overview owes: 1, 16; account, closed epoch, held count and damage of each lot.
-use Rattle.std.specs.Prelude.{ℕ, ◌≡◌, not, List, [], ◌∷◌, ◌++◌, ltb, length, drop}
-use Rattle.model.specs.Lists.{if◌then◌else◌, upward}
+use Rattle.std.specs.Prelude.{ℕ, ◌≡◌, not, List, [], ◌∷◌, ◌++◌, ltb, length, drop, if◌then◌else◌}
+use Rattle.model.specs.Lists.{upward}
 use Rattle.model.specs.Account.{held_count}
 use Rattle.model.specs.declared.Refusal.TheVariants.{NoSuchLot, TooShort}
 use Rattle.model.specs.declared.Outcome.{Outcome}

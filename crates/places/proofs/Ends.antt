@@ -10,7 +10,8 @@ use lib.Dec.{leb, ltb}
 use lib.ListN.{get_or, drop}
 use lib.Seq.{get_or-drop}
 use borrow.Author.Tests.{le-leb, lt-leb, lt-ltb, leb-true, leb-false}
-use Rattle.model.specs.Lists.{if◌then◌else◌, all}
+use Rattle.std.specs.Prelude.{if◌then◌else◌}
+use Rattle.model.specs.Lists.{all}
 use Rattle.model.specs.Image.{Item}
 use Rattle.model.specs.Decoding.{item_of, parse}
 use Rattle.model.specs.Section.{items}

@@ -7,7 +7,8 @@ use mathlib.Core.List.{List, [], ◌∷◌, map}
 use lib.Dec.{ltb, eqb}
 use lib.ListN.{length, get_or}
 use borrow.Author.Tests.{eq-eqb}
-use Rattle.model.specs.Lists.{if◌then◌else◌, any, count_below, bits_of}
+use Rattle.std.specs.Prelude.{if◌then◌else◌}
+use Rattle.model.specs.Lists.{any, count_below, bits_of}
 use Rattle.model.specs.Entry.{LENGTH, entry_of, fits, inside}
 use Rattle.model.specs.Distance.{below_zero, above_zero}
 use Rattle.model.specs.Account.{Record, absent, present, Account, account_fits, held_count, Named, refused, found}

@@ -7,7 +7,7 @@ use native.Mathlib.Omega.{arith}
 use lib.Dec.{ltb}
 use lib.ListN.{length, drop}
 use lib.Seq.{drop_at}
-use Rattle.model.specs.Lists.{if◌then◌else◌}
+use Rattle.std.specs.Prelude.{if◌then◌else◌}
 use Rattle.model.specs.Account.{Account, Named, refused, found}
 use Rattle.model.specs.Closing.{Piece, judge_close, close, listed, close_from, pairs, LEAST_LIST, judge_room, close_judged, close_of}
 use Rattle.model.specs.declared.Outcome.{Outcome}

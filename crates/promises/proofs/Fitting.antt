@@ -8,7 +8,8 @@ use lib.Dec.{leb, ltb, eqb}
 use lib.ListN.{length, length-append, length-map}
 use lib.Pow.{pow_mono}
 use borrow.Author.Tests.{eqb-true, leb-true}
-use Rattle.model.specs.Lists.{if◌then◌else◌, filter, any, all, sum_below, count_below, bits_of}
+use Rattle.std.specs.Prelude.{if◌then◌else◌}
+use Rattle.model.specs.Lists.{filter, any, all, sum_below, count_below, bits_of}
 use Rattle.model.specs.Entry.{P, CC, CP}
 use Rattle.model.specs.Account.{Held, Account, account_fits, held_count, Named, refused, found}
 use Rattle.model.specs.Accepting.{WellFormed}

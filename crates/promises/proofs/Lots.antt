@@ -8,7 +8,7 @@ use lib.ListN.{length, get_or, drop, length-append, length-take, length-drop}
 use lib.Seq.{get_or-drop, take_at, drop_at, drop-drop}
 use borrow.Author.Tests.{leb-true}
 use Rattle.wire.specs.Numbers.{number32, bytes16, bytes32}
-use Rattle.model.specs.Lists.{if◌then◌else◌}
+use Rattle.std.specs.Prelude.{if◌then◌else◌}
 use Rattle.model.specs.Account.{Record, absent, present, Account, account_fits, held_count}
 use Rattle.model.specs.Accepting.{WellFormed}
 use Rattle.model.specs.Image.{form, stream8, held20, each}

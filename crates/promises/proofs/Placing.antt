@@ -4,7 +4,7 @@ use mathlib.Core.Path.{◌≡◌, refl, sym}
 use mathlib.Core.Bool.{Bool, true, false, not}
 use mathlib.Core.Option.{Option, some, none}
 use mathlib.Core.List.{List}
-use Rattle.model.specs.Lists.{if◌then◌else◌}
+use Rattle.std.specs.Prelude.{if◌then◌else◌}
 use Rattle.model.specs.Account.{Account, account_fits}
 use Rattle.model.specs.Decoding.{load}
 use Rattle.model.specs.declared.Refusal.TheVariants.{NoSuchLot, Damaged, AlreadyOpen, NoFreeLot, UnfitAccount}

@@ -1,7 +1,7 @@
 -- Which numbers a call may be answered, when each refusal is given, and the answer.
-use Rattle.std.specs.Prelude.{ℕ, ◌/◌, ◌%◌, ◌≤◌, ◌≡◌, Bool, true, false, not, ◌&&◌, List, [], ◌∷◌, ltb, eqb, length, ℤ}
+use Rattle.std.specs.Prelude.{ℕ, ◌/◌, ◌%◌, ◌≤◌, ◌≡◌, Bool, true, false, not, ◌&&◌, List, [], ◌∷◌, ltb, eqb, length, ℤ, if◌then◌else◌}
 use Rattle.std.proofs.Math.Option.{Option, some, none}
-use Rattle.model.specs.Lists.{if◌then◌else◌, any, count_below}
+use Rattle.model.specs.Lists.{any, count_below}
 use Rattle.model.specs.Entry.{LENGTH, entry_of, fits, inside}
 use Rattle.model.specs.Distance.{distance, below_zero, above_zero}
 use Rattle.model.specs.Account.{Account, account_fits, held_count}

@@ -1,6 +1,5 @@
 -- The calls of one account: those that name its lot and its number; and what a run's replies to them say was taken, closed and listed.
-use Rattle.std.specs.Prelude.{ℕ, zero, suc, ◌≡◌, Bool, true, false, ◌&&◌, List, [], ◌∷◌, ◌++◌, eqb}
-use Rattle.model.specs.Lists.{if◌then◌else◌}
+use Rattle.std.specs.Prelude.{ℕ, zero, suc, ◌≡◌, Bool, true, false, ◌&&◌, List, [], ◌∷◌, ◌++◌, eqb, if◌then◌else◌}
 use Rattle.model.specs.Entry.{entry_of}
 use Rattle.model.specs.Closing.{Piece}
 use Rattle.model.specs.Runs as model

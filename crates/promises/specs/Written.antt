@@ -1,6 +1,5 @@
 -- What a call lends to be written, and where it writes in the memory: in its own lot, start alone in all lots, and nowhere where it is refused.
-use Rattle.std.specs.Prelude.{ℕ, ◌≡◌, Bool, List, [], eqb, length}
-use Rattle.model.specs.Lists.{if◌then◌else◌}
+use Rattle.std.specs.Prelude.{ℕ, ◌≡◌, Bool, List, [], eqb, length, if◌then◌else◌}
 use Rattle.model.specs.declared.Numbers.{Numbers}
 use Rattle.lots.specs.Memory.{view_of, OnlyLot, Becomes}
 use Rattle.overview.specs.declared.Row.{Row}

@@ -6,7 +6,8 @@ use mathlib.Core.List.{List, ◌++◌}
 use native.Mathlib.Omega.{arith}
 use borrow.Author.Tests.{eq-eqb}
 use lib.ListN.{length, take}
-use Rattle.model.specs.Lists.{if◌then◌else◌, every}
+use Rattle.std.specs.Prelude.{if◌then◌else◌}
+use Rattle.model.specs.Lists.{every}
 use Rattle.model.specs.Account.{Account, fresh, found}
 use Rattle.model.specs.declared.Refusal.TheVariants.{UnfitAccount}
 use Rattle.model.specs.declared.Outcome.{Outcome}

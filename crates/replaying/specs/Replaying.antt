@@ -1,7 +1,7 @@
 -- What the program prints of each call on its one lot, lot 0 of 1, and what each function owes: the memory by the contracts of the calls, the text in the lent buffer `out`, and where it ends.
-use Rattle.std.specs.Prelude.{ℕ, suc, ◌+◌, ◌*◌, ◌≤◌, ◌≡◌, List, [], ◌++◌, ltb, length, get_or}
+use Rattle.std.specs.Prelude.{ℕ, suc, ◌+◌, ◌*◌, ◌≤◌, ◌≡◌, List, [], ◌++◌, ltb, length, get_or, if◌then◌else◌}
 use Rattle.wire.specs.Numbers.{number16}
-use Rattle.model.specs.Lists.{if◌then◌else◌, upward}
+use Rattle.model.specs.Lists.{upward}
 use Rattle.model.specs.Account.{Account, held_count, Named, refused, found}
 use Rattle.model.specs.Closing.{close, Piece, listed, LEAST_LIST, close_from}
 use Rattle.model.specs.Image.{Present, form, each}

@@ -9,7 +9,7 @@ use lib.ListN.{length, take, drop, length-append}
 use lib.Seq.{take_at, take-append-le, length-take-le}
 use borrow.Author.Tests.{ltb-true, ltb-false, lt-ltb, le-ltb}
 use Rattle.wire.specs.Numbers.{bytes32}
-use Rattle.model.specs.Lists.{if◌then◌else◌}
+use Rattle.std.specs.Prelude.{if◌then◌else◌}
 use Rattle.model.specs.Account.{Account, Named, refused, found}
 use Rattle.model.specs.Closing.{LEAST_LIST, judge_room, listed, pairs, close_judged, close_from}
 use Rattle.model.specs.Image.{each}

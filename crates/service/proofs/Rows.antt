@@ -7,7 +7,8 @@ use native.Mathlib.Omega.{arith}
 use lib.Dec.{ltb}
 use lib.ListN.{length}
 use borrow.Author.Tests.{lt-ltb}
-use Rattle.model.specs.Lists.{if◌then◌else◌, upward}
+use Rattle.std.specs.Prelude.{if◌then◌else◌}
+use Rattle.model.specs.Lists.{upward}
 use Rattle.model.specs.Image.{each}
 use Rattle.model.specs.Decoding.{parse}
 use Rattle.model.specs.declared.Outcome.{Outcome}

@@ -1,6 +1,6 @@
 -- What the inner functions are asked: how much of a list is lent on, how much is written back.
-use Rattle.std.specs.Prelude.{ℕ, ◌*◌, List, [], ◌∷◌, ltb}
-use Rattle.model.specs.Lists.{if◌then◌else◌, upward}
+use Rattle.std.specs.Prelude.{ℕ, ◌*◌, List, [], ◌∷◌, ltb, if◌then◌else◌}
+use Rattle.model.specs.Lists.{upward}
 use Rattle.model.specs.Closing.{LEAST_LIST}
 use Rattle.model.specs.declared.Closed.{Closed}
 use Rattle.model.specs.declared.Closed.TheVariants.{Pieces, NotClosed}

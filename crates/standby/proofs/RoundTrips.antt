@@ -8,7 +8,7 @@ use mathlib.Core.List.{List, [], ◌++◌}
 use lib.ListN.{length, take}
 use native.Mathlib.Omega.{arith}
 use borrow.Author.Tests.{leb-true, ne_eqb}
-use Rattle.model.specs.Lists.{if◌then◌else◌}
+use Rattle.std.specs.Prelude.{if◌then◌else◌}
 use Rattle.model.specs.Account.{Account}
 use Rattle.model.specs.Image.{image}
 use Rattle.model.specs.Decoding.{load}

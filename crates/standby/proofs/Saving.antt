@@ -7,7 +7,7 @@ use lib.Dec.{ltb}
 use lib.ListN.{length, take, drop}
 use lib.Seq.{take_at}
 use borrow.Author.Tests.{eq-eqb, lt-ltb, le-ltb}
-use Rattle.model.specs.Lists.{if◌then◌else◌}
+use Rattle.std.specs.Prelude.{if◌then◌else◌}
 use Rattle.model.specs.Account.{Account, Named, refused, found}
 use Rattle.model.specs.Image.{image, LONGEST_IMAGE}
 use Rattle.model.specs.declared.Refusal.{Refusal}

@@ -1,7 +1,6 @@
 -- What save and load owe. Save: 1, 2, 3, 16; the image's length, and the image. Load: 1, 2, 17, 13, 14; the lot, and the account there.
-use Rattle.std.specs.Prelude.{ℕ, ◌≡◌, not, List, ◌++◌, ltb, length, drop}
+use Rattle.std.specs.Prelude.{ℕ, ◌≡◌, not, List, ◌++◌, ltb, length, drop, if◌then◌else◌}
 use Rattle.std.proofs.Math.Option.{Option, some, none}
-use Rattle.model.specs.Lists.{if◌then◌else◌}
 use Rattle.model.specs.Account.{Account, Named, refused, found}
 use Rattle.model.specs.Image.{image, LONGEST_IMAGE}
 use Rattle.model.specs.Decoding.{load}

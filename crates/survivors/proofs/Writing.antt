@@ -10,7 +10,8 @@ use lib.ListN.{length, get_or, set, take, drop, replicate, length-set}
 use lib.Seq.{get_or-set_same, get_or-set_other, get_or-take, take-length, set-get_or}
 use Rattle.wire.specs.Numbers.{number16, number32}
 use Rattle.wire.specs.Laws.{Same}
-use Rattle.model.specs.Lists.{if◌then◌else◌, every}
+use Rattle.std.specs.Prelude.{if◌then◌else◌}
+use Rattle.model.specs.Lists.{every}
 use Rattle.model.specs.Image.{Item}
 use Rattle.model.specs.Decoding.{item_of, parse}
 use Rattle.model.proofs.Tests.{and_l, and_r, nth, every_append}

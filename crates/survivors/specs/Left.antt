@@ -1,6 +1,5 @@
 -- What a close leaves of a held section, place by place, by the numbers of the verdicts.
-use Rattle.std.specs.Prelude.{ℕ, zero, suc, ◌≡◌, Bool, true, not, ◌&&◌, ◌||◌, List, [], ◌∷◌, ◌++◌, leb, eqb, get_or}
-use Rattle.model.specs.Lists.{if◌then◌else◌}
+use Rattle.std.specs.Prelude.{ℕ, zero, suc, ◌≡◌, Bool, true, not, ◌&&◌, ◌||◌, List, [], ◌∷◌, ◌++◌, leb, eqb, get_or, if◌then◌else◌}
 use Rattle.model.specs.Entry.{P}
 use Rattle.model.specs.Closing.{with_flag}
 use Rattle.model.specs.Image.{Item}

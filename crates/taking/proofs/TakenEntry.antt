@@ -8,7 +8,7 @@ use native.Mathlib.Decide.{ℕ_discrete}
 use lib.Dec.{leb, eqb}
 use lib.ListN.{length, drop}
 use borrow.Author.Tests.{eqb-true, eq-eqb, ne_eqb, leb-true}
-use Rattle.model.specs.Lists.{if◌then◌else◌}
+use Rattle.std.specs.Prelude.{if◌then◌else◌}
 use Rattle.model.specs.Entry.{LENGTH, LAST_MARK, entry_of, is_mark, fits, fields_fit}
 use Rattle.model.specs.Account.{Account, held_count}
 use Rattle.model.specs.Taking.{judge_entry, judge, stepped, take, taken}

@@ -1,6 +1,5 @@
 -- Delivering one entry to one lot: what it is answered, and what the lot becomes.
-use Rattle.std.specs.Prelude.{ℕ, ◌+◌, ◌*◌, ◌<◌, ◌^◌, ◌≡◌, Bool, List, drop}
-use Rattle.model.specs.Lists.{if◌then◌else◌}
+use Rattle.std.specs.Prelude.{ℕ, ◌+◌, ◌*◌, ◌<◌, ◌^◌, ◌≡◌, Bool, List, drop, if◌then◌else◌}
 use Rattle.model.specs.Entry.{entry_of}
 use Rattle.model.specs.Account.{Held, Account}
 use Rattle.model.specs.Stages.{stage}

@@ -10,7 +10,7 @@ use borrow.Author.Tests.{eq-eqb, ne_eqb, leb-true, leb-false, le-leb, lt-leb}
 use lib.Dec.{leb, eqb}
 use lib.ListN.{length, get_or, set, replicate, get_or-replicate, length-set}
 use lib.Seq.{get_or-set_same, get_or-set_other}
-use Rattle.model.specs.Lists.{if◌then◌else◌}
+use Rattle.std.specs.Prelude.{if◌then◌else◌}
 use Rattle.model.proofs.Tests.{no_way, and_l, and_r}
 use Rattle.model.specs.Section.{item_at}
 use Rattle.lookback.specs.Last.{last_with, is_of, last_before, Lasts}

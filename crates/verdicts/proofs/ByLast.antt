@@ -8,7 +8,8 @@ use native.Mathlib.Omega.{arith}
 use native.Mathlib.Decide.{ℕ_discrete}
 use borrow.Author.Tests.{eq-eqb, ne_eqb, eqb-true, leb-true, leb-false, le-leb, lt-leb, ltb-true}
 use lib.Dec.{leb, ltb, eqb}
-use Rattle.model.specs.Lists.{if◌then◌else◌, filter, any}
+use Rattle.std.specs.Prelude.{if◌then◌else◌}
+use Rattle.model.specs.Lists.{filter, any}
 use Rattle.model.specs.Entry.{DELETE, P, CC, CP, A}
 use Rattle.model.specs.Account.{Held, coordinator}
 use Rattle.model.specs.Closing.{upto, is, flagged_p, unflagged_p, Verdict, free, install, flag, stay, verdict, committed}

@@ -1,6 +1,5 @@
 -- The verdict on the transaction of each place of a held section, and the place that decides it: the last one looked at.
-use Rattle.std.specs.Prelude.{ℕ, zero, suc, ◌*◌, ◌-◌, ◌<◌, ◌≤◌, ◌≡◌, Bool, true, false, not, ◌&&◌, List, leb, eqb, length, get_or}
-use Rattle.model.specs.Lists.{if◌then◌else◌}
+use Rattle.std.specs.Prelude.{ℕ, zero, suc, ◌*◌, ◌-◌, ◌<◌, ◌≤◌, ◌≡◌, Bool, true, false, not, ◌&&◌, List, leb, eqb, length, get_or, if◌then◌else◌}
 use Rattle.model.specs.Entry.{P, CC, CP, A}
 use Rattle.model.specs.Account.{Held, coordinator}
 use Rattle.model.specs.Closing.{upto, Verdict, free, install, flag, stay, verdict, committed}

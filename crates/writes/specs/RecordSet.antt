@@ -1,6 +1,5 @@
 -- An account with another record.
-use Rattle.std.specs.Prelude.{ℕ, ◌&&◌, eqb}
-use Rattle.model.specs.Lists.{if◌then◌else◌}
+use Rattle.std.specs.Prelude.{ℕ, ◌&&◌, eqb, if◌then◌else◌}
 use Rattle.model.specs.Account.{Record, Account}
 
 -- the account a with the record x of fragment i and key k
