@@ -1,0 +1,9 @@
+-- `bucket` answers the bucket of a stream and a transaction. Assumes nothing.
+use native.Mathlib.Omega.{arith}
+use Rattle.lookback.specs.Last.{bucket_of}
+use borrow.Author.Rules.{rules}
+use Rattle.lookback.proofs.bucket.Goals as goal
+
+pub returns : goal.returns
+unfolding bucket_of
+returns c = (rw c.wide.ensures, omega arith)
