@@ -7,4 +7,4 @@ use Rattle.lines.proofs.put_epoch.Goals as goal
 
 pub returns : goal.returns
 unfolding epoch_line
-returns c = (wrote_more (wrote_more (wrote_more c.put_word-after_epoch.ensures c.put_number-after_number.ensures.0) c.put_word-after_pieces.ensures) c.put_last.ensures.0, omega arith)
+returns c = record { wrote = wrote_more (wrote_more (wrote_more c.put_word-after_epoch.ensures c.put_number-after_number.ensures.wrote) c.put_word-after_pieces.ensures) c.put_last.ensures.wrote; upper_bound = omega arith }

@@ -5,4 +5,4 @@ use borrow.Author.Rules.{rules}
 use Rattle.lines.proofs.put_last.Goals as goal
 
 pub returns : goal.returns
-returns c = (wrote_more c.put_number-end.ensures.0 c.put_byte.ensures, omega (arith, c.put_byte.ensures.ends))
+returns c = record { wrote = wrote_more c.put_number-end.ensures.wrote c.put_byte.ensures; upper_bound = omega (arith, c.put_byte.ensures.ends) }
