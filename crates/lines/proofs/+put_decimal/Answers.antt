@@ -1,5 +1,4 @@
 -- A number below ten is its digit; any other is the text of its tenth and then its last digit. The measure is the number. Assumes nothing.
-use Rattle.std.proofs.Common.{◌≡◌, [], ◌∷◌, ◌+◌, ◌≤◌, length, ◌<◌, ◌/◌, ◌%◌}
 use native.Mathlib.Omega.{arith}
 use Rattle.lines.proofs.Decimal.{decimal_short, decimal_long, length_short, length_long}
 use Rattle.lines.proofs.Writing.{wrote_more}

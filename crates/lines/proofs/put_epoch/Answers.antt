@@ -2,7 +2,6 @@
 use native.Mathlib.Omega.{arith}
 use Rattle.lines.proofs.Writing.{wrote_more}
 use Rattle.lines.specs.Lines.{epoch_line}
-use borrow.Author.Rules.{rules}
 use Rattle.lines.proofs.put_epoch.Goals as goal
 
 pub returns : goal.returns

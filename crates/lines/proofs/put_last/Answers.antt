@@ -1,7 +1,6 @@
 -- Last: its words and numbers are written one after the other. Assumes nothing.
 use native.Mathlib.Omega.{arith}
 use Rattle.lines.proofs.Writing.{wrote_more}
-use borrow.Author.Rules.{rules}
 use Rattle.lines.proofs.put_last.Goals as goal
 
 pub returns : goal.returns
