@@ -3,7 +3,7 @@
 #![tactic(auto)]
 
 ghost use Rattle.std.specs.Prelude.{◌≡◌, [], ◌∷◌, ◌+◌, ◌≤◌, length};
-ghost use Rattle.lines.specs.Text.{ROOM as Text-as-ROOM, last_digit, decimal, Wrote};
+ghost use Rattle.lines.specs.Text.{ROOM as MOST_ROOM, last_digit, decimal, Wrote};
 ghost use Rattle.lines.specs.Lines.{number, last, epoch_line, piece_line, record_line, held_line, entry_line, open_line};
 
 // How many bytes a lent buffer has.
@@ -12,7 +12,7 @@ pub const ROOM: usize = 80000;
 // ---- what lines are made of
 
 fn put_byte(out: &mut [u8; ROOM], at: usize, byte: u8) -> usize
-    requires { at + 1 ≤ Text-as-ROOM }
+    requires { at + 1 ≤ MOST_ROOM }
     ensures { Wrote (byte ∷ []) out.old out.new at result }
 {
     out[at] = byte;
@@ -20,7 +20,7 @@ fn put_byte(out: &mut [u8; ROOM], at: usize, byte: u8) -> usize
 }
 
 fn put_word(out: &mut [u8; ROOM], at: usize, word: &[u8]) -> usize
-    requires { at + length word.now ≤ Text-as-ROOM }
+    requires { at + length word.now ≤ MOST_ROOM }
     ensures { Wrote word.now out.old out.new at result }
 {
     let mut end = at;
@@ -39,7 +39,7 @@ fn last_digit(n: u64) -> u8
 }
 
 fn put_decimal(out: &mut [u8; ROOM], at: usize, n: u64) -> usize
-    requires { at + length (decimal n) ≤ Text-as-ROOM }
+    requires { at + length (decimal n) ≤ MOST_ROOM }
     ensures { Wrote (decimal n) out.old out.new at result }
 {
     if n < 10 {
@@ -51,7 +51,7 @@ fn put_decimal(out: &mut [u8; ROOM], at: usize, n: u64) -> usize
 
 // A space and a number.
 fn put_number(out: &mut [u8; ROOM], at: usize, n: u64) -> usize
-    requires { at + 21 ≤ Text-as-ROOM }
+    requires { at + 21 ≤ MOST_ROOM }
     ensures wrote { Wrote (number n) out.old out.new at result }
     ensures upper_bound { result ≤ at + 21 }
 {
@@ -61,7 +61,7 @@ fn put_number(out: &mut [u8; ROOM], at: usize, n: u64) -> usize
 
 // The last number of a line.
 fn put_last(out: &mut [u8; ROOM], at: usize, n: u64) -> usize
-    requires { at + 22 ≤ Text-as-ROOM }
+    requires { at + 22 ≤ MOST_ROOM }
     ensures wrote { Wrote (last n) out.old out.new at result }
     ensures upper_bound { result ≤ at + 22 }
 {
@@ -72,7 +72,7 @@ fn put_last(out: &mut [u8; ROOM], at: usize, n: u64) -> usize
 // ---- the lines
 
 pub fn put_epoch(out: &mut [u8; ROOM], at: usize, epoch: u64, pieces: u64) -> usize
-    requires { at + 70 ≤ Text-as-ROOM }
+    requires { at + 70 ≤ MOST_ROOM }
     ensures wrote { Wrote (epoch_line epoch pieces) out.old out.new at result }
     ensures upper_bound { result ≤ at + 70 }
 {
@@ -83,7 +83,7 @@ pub fn put_epoch(out: &mut [u8; ROOM], at: usize, epoch: u64, pieces: u64) -> us
 }
 
 pub fn put_piece(out: &mut [u8; ROOM], at: usize, fragment: u64, transaction: u64) -> usize
-    requires { at + 70 ≤ Text-as-ROOM }
+    requires { at + 70 ≤ MOST_ROOM }
     ensures wrote { Wrote (piece_line fragment transaction) out.old out.new at result }
     ensures upper_bound { result ≤ at + 70 }
 {
@@ -93,7 +93,7 @@ pub fn put_piece(out: &mut [u8; ROOM], at: usize, fragment: u64, transaction: u6
 }
 
 pub fn put_record(out: &mut [u8; ROOM], at: usize, fragment: u64, key: u64, value: u64) -> usize
-    requires { at + 70 ≤ Text-as-ROOM }
+    requires { at + 70 ≤ MOST_ROOM }
     ensures wrote { Wrote (record_line fragment key value) out.old out.new at result }
     ensures upper_bound { result ≤ at + 70 }
 {
@@ -104,7 +104,7 @@ pub fn put_record(out: &mut [u8; ROOM], at: usize, fragment: u64, key: u64, valu
 }
 
 pub fn put_held(out: &mut [u8; ROOM], at: usize, held: u64) -> usize
-    requires { at + 70 ≤ Text-as-ROOM }
+    requires { at + 70 ≤ MOST_ROOM }
     ensures wrote { Wrote (held_line held) out.old out.new at result }
     ensures upper_bound { result ≤ at + 70 }
 {
@@ -113,7 +113,7 @@ pub fn put_held(out: &mut [u8; ROOM], at: usize, held: u64) -> usize
 }
 
 pub fn put_refused_entry(out: &mut [u8; ROOM], at: usize, index: u64, refusal: u64) -> usize
-    requires { at + 70 ≤ Text-as-ROOM }
+    requires { at + 70 ≤ MOST_ROOM }
     ensures wrote { Wrote (entry_line index refusal) out.old out.new at result }
     ensures upper_bound { result ≤ at + 70 }
 {
@@ -124,7 +124,7 @@ pub fn put_refused_entry(out: &mut [u8; ROOM], at: usize, index: u64, refusal: u
 }
 
 pub fn put_refused_header(out: &mut [u8; ROOM], at: usize, refusal: u64) -> usize
-    requires { at + 70 ≤ Text-as-ROOM }
+    requires { at + 70 ≤ MOST_ROOM }
     ensures wrote { Wrote (open_line refusal) out.old out.new at result }
     ensures upper_bound { result ≤ at + 70 }
 {

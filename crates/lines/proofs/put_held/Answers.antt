@@ -2,9 +2,8 @@
 use native.Mathlib.Omega.{arith}
 use Rattle.lines.proofs.Writing.{wrote_more}
 use Rattle.lines.specs.Lines.{held_line}
-use borrow.Author.Rules.{rules}
 use Rattle.lines.proofs.put_held.Goals as goal
 
 pub returns : goal.returns
 unfolding held_line
-returns c = (wrote_more c.put_word-after_held.ensures c.put_last.ensures.0, omega arith)
+returns c = record { wrote = wrote_more c.put_word-after_held.ensures c.put_last.ensures.wrote; upper_bound = omega arith }

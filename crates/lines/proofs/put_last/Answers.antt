@@ -1,8 +1,7 @@
 -- Last: its words and numbers are written one after the other. Assumes nothing.
 use native.Mathlib.Omega.{arith}
 use Rattle.lines.proofs.Writing.{wrote_more}
-use borrow.Author.Rules.{rules}
 use Rattle.lines.proofs.put_last.Goals as goal
 
 pub returns : goal.returns
-returns c = (wrote_more c.put_number-end.ensures.0 c.put_byte.ensures, omega (arith, c.put_byte.ensures.ends))
+returns c = record { wrote = wrote_more c.put_number-end.ensures.wrote c.put_byte.ensures; upper_bound = omega (arith, c.put_byte.ensures.ends) }

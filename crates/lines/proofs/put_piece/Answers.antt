@@ -2,9 +2,8 @@
 use native.Mathlib.Omega.{arith}
 use Rattle.lines.proofs.Writing.{wrote_more}
 use Rattle.lines.specs.Lines.{piece_line}
-use borrow.Author.Rules.{rules}
 use Rattle.lines.proofs.put_piece.Goals as goal
 
 pub returns : goal.returns
 unfolding piece_line
-returns c = (wrote_more (wrote_more c.put_word-after_piece.ensures c.put_number-after_fragment.ensures.0) c.put_last.ensures.0, omega arith)
+returns c = record { wrote = wrote_more (wrote_more c.put_word-after_piece.ensures c.put_number-after_fragment.ensures.wrote) c.put_last.ensures.wrote; upper_bound = omega arith }

@@ -1,9 +1,6 @@
 -- A word is written byte by byte: the first i bytes of it stand there. Assumes nothing.
-use Prim.Native.Nat.{◌≤◌, ◌-◌}
 use native.Mathlib.Omega.{arith}
-use lib.ListN.{length, take}
 use lib.Seq.{take_all}
-use Rattle.lines.specs.Text.{Wrote}
 use Rattle.lines.proofs.Writing.{wrote_none, wrote_next, room_next}
 use Rattle.lines.proofs.put_word.Goals as goal
 
