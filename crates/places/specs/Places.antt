@@ -1,5 +1,5 @@
 -- The end of a stream's entries among them, and an entry put in there.
-use Rattle.std.specs.Prelude.{ℕ, zero, suc, ◌+◌, ◌*◌, ◌-◌, ◌≡◌, true, List, [], ◌∷◌, ◌++◌, leb, get_or, drop, if◌then◌else◌}
+use Rattle.std.specs.Prelude.{ℕ, zero, suc, ◌+◌, ◌*◌, ◌-◌, ◌≡◌, true, List, ◌∷◌, ◌++◌, leb, get_or, drop, if◌then◌else◌}
 use Rattle.model.specs.Entry.{entry_of, fits}
 use Rattle.model.specs.Taking.{hold}
 use Rattle.model.specs.Image.{Item}

@@ -1,12 +1,12 @@
 -- The verdict on a transaction, which asks for any entry of a kind, is decided by its last entry looked at. Assumes nothing.
-use Prim.Native.Nat.{ℕ, zero, suc, ◌*◌, ◌≤◌, ◌<◌}
+use Prim.Native.Nat.{ℕ, zero, suc, ◌≤◌, ◌<◌}
 use mathlib.Core.Path.{◌≡◌, refl, sym, ap, ◌∙◌, fun_ext}
-use mathlib.Core.Logic.{◌⊎◌, inl, inr, ⊎_elim}
+use mathlib.Core.Logic.{⊎_elim}
 use mathlib.Core.Bool.{Bool, true, false, not, ◌&&◌, ◌||◌, and-true, and-false, or-false}
 use mathlib.Core.List.{List, [], ◌∷◌, ◌++◌, append-nil}
 use native.Mathlib.Omega.{arith}
 use native.Mathlib.Decide.{ℕ_discrete}
-use borrow.Author.Tests.{eq-eqb, ne_eqb, eqb-true, leb-true, leb-false, le-leb, lt-leb, ltb-true}
+use borrow.Author.Tests.{ne_eqb, eqb-true, leb-true, leb-false, le-leb, lt-leb, ltb-true}
 use lib.Dec.{leb, ltb, eqb}
 use Rattle.std.specs.Prelude.{if◌then◌else◌}
 use Rattle.model.specs.Lists.{filter, any}
@@ -25,7 +25,7 @@ use Rattle.model.specs.Section.{item_at, items}
 use Rattle.lookback.specs.Places.{stage_at}
 use Rattle.lookback.specs.Last.{last_with, is_of, last_before}
 use Rattle.lookback.proofs.Places.{parse_more}
-use Rattle.lookback.proofs.Chains.{last_hit, last_passes, last_jump, same_last}
+use Rattle.lookback.proofs.Chains.{last_passes, last_jump, same_last}
 use Rattle.verdicts.specs.Orderly.{Orderly}
 use Rattle.verdicts.specs.Verdicts.{held_in, verdict_at, looked_at, decider_at, commits_at, decides, flagged_at, to_flag, decided_by}
 

@@ -1,5 +1,5 @@
 -- `distance` answers the signed distance. Assumes nothing.
-use Rattle.std.proofs.Common.{◌≡◌, negsuc, to_z, of_z, ◌-◌, arith, to_z-of_z, w16, rules, le-ltb, lt-ltb}
+use Rattle.std.proofs.Common.{◌≡◌, negsuc, to_z, of_z, ◌-◌, arith, to_z-of_z, w16, le-ltb, lt-ltb}
 use mir.Facts.{to_z_pos}
 use Rattle.model.specs.Distance.{distance}
 use Rattle.entry.proofs.Distances.{difference_is, below}

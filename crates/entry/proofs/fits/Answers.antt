@@ -1,5 +1,4 @@
 -- `fits` is refusal 5's test. Assumes nothing.
-use Rattle.std.proofs.Common.{rules}
 use Rattle.model.specs.Entry.{fits}
 use Rattle.entry.proofs.fits.Goals as goal
 

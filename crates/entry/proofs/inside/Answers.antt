@@ -1,5 +1,4 @@
 -- `inside` is refusal 6's test. Assumes nothing.
-use Rattle.std.proofs.Common.{rules}
 use Rattle.model.specs.Entry.{inside}
 use Rattle.entry.proofs.inside.Goals as goal
 

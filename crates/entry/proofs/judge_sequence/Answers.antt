@@ -1,5 +1,4 @@
 -- `judge_sequence` goes by the sign of the distance. Assumes nothing.
-use Rattle.std.proofs.Common.{rules}
 use Rattle.entry.specs.Sequence.{sequence_of}
 use Rattle.entry.proofs.Distances.{tests_below, tests_above}
 use Rattle.entry.proofs.judge_sequence.Goals as goal

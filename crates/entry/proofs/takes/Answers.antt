@@ -1,5 +1,5 @@
 -- `takes` goes by the rows of the table. Assumes nothing.
-use Rattle.std.proofs.Common.{rules, eq-eqb, ne_eqb, le-leb}
+use Rattle.std.proofs.Common.{eq-eqb, ne_eqb, le-leb}
 use borrow.Author.Tests.{lt-leb}
 use Rattle.model.specs.Stages.{takes}
 use Rattle.entry.proofs.takes.Goals as goal

@@ -2,7 +2,6 @@
 use mathlib.Core.Bool.{and-true, and_assoc}
 use Rattle.model.specs.Lists.{every}
 use Rattle.model.specs.Accepting.{entry_fits}
-use borrow.Author.Rules.{rules}
 use Rattle.held.proofs.entry_fits.Goals as goal
 
 pub returns : goal.returns

@@ -1,7 +1,6 @@
 -- `epoch_at` reads the place's epoch. Assumes nothing.
 use mathlib.Core.Path.{sym, ◌∙◌}
 use Rattle.held.proofs.Fields.{epoch_is}
-use borrow.Author.Rules.{rules}
 use Rattle.held.proofs.epoch_at.Goals as goal
 
 pub returns : goal.returns

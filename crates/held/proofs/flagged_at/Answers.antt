@@ -1,7 +1,6 @@
 -- `flagged_at` reads whether the place is flagged. Assumes nothing.
 use mathlib.Core.Path.{sym}
 use Rattle.held.proofs.Fields.{flagged_is}
-use borrow.Author.Rules.{rules}
 use Rattle.held.proofs.flagged_at.Goals as goal
 
 pub returns : goal.returns

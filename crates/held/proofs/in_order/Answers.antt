@@ -3,7 +3,6 @@ use mathlib.Core.Path.{sym}
 use native.Mathlib.Omega.{arith}
 use Rattle.held.specs.Place.{may_follow, in_order}
 use Rattle.held.proofs.Fields.{order_is}
-use borrow.Author.Rules.{rules}
 use Rattle.held.proofs.in_order.Goals as goal
 
 pub returns-then-i-eq0 : goal.returns-then-i-eq0

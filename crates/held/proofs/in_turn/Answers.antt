@@ -2,7 +2,6 @@
 use mathlib.Core.Bool.{and-true, and_assoc}
 use Rattle.model.specs.Lists.{every, all}
 use Rattle.model.specs.Accepting.{follows}
-use borrow.Author.Rules.{rules}
 use Rattle.held.proofs.in_turn.Goals as goal
 
 pub returns : goal.returns

@@ -2,7 +2,6 @@
 use mathlib.Core.Path.{sym, ◌∙◌}
 use native.Mathlib.Omega.{arith}
 use Rattle.held.proofs.Fields.{epoch_within, epoch_outside}
-use borrow.Author.Rules.{rules}
 use Rattle.held.proofs.open_epoch.Goals as goal
 
 pub returns-then-stream-fragments : goal.returns-then-stream-fragments

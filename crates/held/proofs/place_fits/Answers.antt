@@ -8,7 +8,6 @@ use Rattle.lookback.proofs.Places.{length_parse}
 use Rattle.lookback.proofs.Chains.{last_le}
 use Rattle.held.specs.Place.{place_fits}
 use Rattle.held.proofs.Fields.{together}
-use borrow.Author.Rules.{rules}
 use Rattle.held.proofs.place_fits.Goals as goal
 
 pub stage_at-stage-requires : goal.stage_at-stage-requires

@@ -1,7 +1,6 @@
 -- `plain_place` tests the bytes that a place does not use, and its flag. Assumes nothing.
 use mathlib.Core.Path.{sym}
 use Rattle.held.proofs.Fields.{plain_is}
-use borrow.Author.Rules.{rules}
 use Rattle.held.proofs.plain_place.Goals as goal
 
 pub returns : goal.returns

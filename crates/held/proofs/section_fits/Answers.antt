@@ -1,15 +1,12 @@
 -- `section_fits` is the test of a held section. Assumes nothing.
-use Prim.Native.Nat.{◌-◌, ◌≤◌}
-use mathlib.Core.Path.{◌≡◌, refl, sym, ◌∙◌}
-use mathlib.Core.Bool.{true}
+use mathlib.Core.Path.{refl, sym, ◌∙◌}
 use native.Mathlib.Omega.{arith}
 use borrow.Author.Rules.{rules}
-use borrow.Author.Tests.{not-true, not-false}
 use Rattle.model.specs.Lists.{every}
-use Rattle.model.specs.Decoding.{counters_of, parse, held_fits}
+use Rattle.model.specs.Decoding.{parse, held_fits}
 use Rattle.model.specs.Section.{section_fits}
 use Rattle.model.proofs.Tests.{and}
-use Rattle.lookback.proofs.Chains.{Chaining, chaining_none, chaining_more}
+use Rattle.lookback.proofs.Chains.{chaining_none, chaining_more}
 use Rattle.held.proofs.Order.{section_more}
 use Rattle.held.proofs.Section.{unfit_place}
 use Rattle.held.proofs.section_fits.Goals as goal

@@ -1,7 +1,6 @@
 -- `value_at` reads the place's value. Assumes nothing.
 use mathlib.Core.Path.{sym, ◌∙◌}
 use Rattle.held.proofs.Fields.{value_is}
-use borrow.Author.Rules.{rules}
 use Rattle.held.proofs.value_at.Goals as goal
 
 pub returns : goal.returns

@@ -1,7 +1,6 @@
 -- `bucket` answers the bucket of a stream and a transaction. Assumes nothing.
 use native.Mathlib.Omega.{arith}
 use Rattle.lookback.specs.Last.{bucket_of}
-use borrow.Author.Rules.{rules}
 use Rattle.lookback.proofs.bucket.Goals as goal
 
 pub returns : goal.returns

@@ -1,9 +1,7 @@
 -- `index_places` chains the places of each bucket. Assumes nothing.
-use Prim.Native.Nat.{◌≤◌, ◌-◌}
-use mathlib.Core.Path.{◌≡◌}
 use native.Mathlib.Omega.{arith}
 use borrow.Author.Rules.{rules}
-use Rattle.lookback.proofs.Chains.{Chaining, chaining_none, chaining_more}
+use Rattle.lookback.proofs.Chains.{chaining_none, chaining_more}
 use Rattle.lookback.proofs.index_places.Goals as goal
 
 pub loop-i-init : goal.loop-i-init

@@ -1,9 +1,6 @@
 -- `index_places` chains the places of each bucket. Assumes nothing.
 use Prim.Native.Nat.{◌≤◌, ◌-◌}
-use mathlib.Core.Path.{◌≡◌}
-use native.Mathlib.Omega.{arith}
-use borrow.Author.Rules.{rules}
-use Rattle.lookback.proofs.Chains.{Chaining, chaining_none, chaining_more}
+use Rattle.lookback.proofs.Chains.{Chaining}
 use Rattle.lookback.proofs.index_places.Given as goal
 
 abbrev pub invariant-loop-i : goal.invariant-loop-i

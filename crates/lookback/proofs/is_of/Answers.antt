@@ -1,6 +1,5 @@
 -- `is_of` compares the place's stream and transaction. Assumes nothing.
 use Rattle.lookback.specs.Last.{is_of}
-use borrow.Author.Rules.{rules}
 use Rattle.lookback.proofs.is_of.Goals as goal
 
 pub returns : goal.returns

@@ -1,7 +1,6 @@
 -- `kind_at` reads the place's kind. Assumes nothing.
 use mathlib.Core.Path.{sym}
 use Rattle.lookback.proofs.Places.{kind_is}
-use borrow.Author.Rules.{rules}
 use Rattle.lookback.proofs.kind_at.Goals as goal
 
 pub returns : goal.returns

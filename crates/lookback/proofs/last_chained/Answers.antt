@@ -1,9 +1,7 @@
 -- `last_chained` finds the last place of a stream and a transaction along a chain. Assumes nothing.
-use Prim.Native.Nat.{◌≤◌, ◌-◌}
-use mathlib.Core.Path.{refl, sym, ◌∙◌}
+use mathlib.Core.Path.{sym, ◌∙◌}
 use native.Mathlib.Omega.{arith}
-use borrow.Author.Rules.{rules}
-use Rattle.lookback.proofs.Chains.{Walk, walk_end, walk_hit, walk_on, walk_less}
+use Rattle.lookback.proofs.Chains.{walk_end, walk_hit, walk_on, walk_less}
 use Rattle.lookback.proofs.last_chained.Goals as goal
 
 pub returns-then-is_of : goal.returns-then-is_of

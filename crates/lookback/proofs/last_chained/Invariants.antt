@@ -1,9 +1,6 @@
 -- `last_chained` finds the last place of a stream and a transaction along a chain. Assumes nothing.
-use Prim.Native.Nat.{◌≤◌, ◌-◌}
-use mathlib.Core.Path.{refl, sym, ◌∙◌}
-use native.Mathlib.Omega.{arith}
-use borrow.Author.Rules.{rules}
-use Rattle.lookback.proofs.Chains.{Walk, walk_end, walk_hit, walk_on, walk_less}
+use Prim.Native.Nat.{◌≤◌}
+use Rattle.lookback.proofs.Chains.{Walk}
 use Rattle.lookback.proofs.last_chained.Given as goal
 
 abbrev pub invariant-loop-m : goal.invariant-loop-m

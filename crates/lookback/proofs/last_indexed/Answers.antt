@@ -1,7 +1,5 @@
 -- `last_indexed` finds the last place of a stream and a transaction along the chains. Assumes nothing.
 use mathlib.Core.Path.{◌∙◌}
-use native.Mathlib.Omega.{arith}
-use borrow.Author.Rules.{rules}
 use Rattle.lookback.proofs.Chains.{ready, found}
 use Rattle.lookback.proofs.last_indexed.Goals as goal
 

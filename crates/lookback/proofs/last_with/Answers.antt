@@ -1,9 +1,7 @@
 -- `last_with` finds the last place of a stream and a transaction, backwards. Assumes nothing.
-use Prim.Native.Nat.{◌≤◌, ◌-◌}
-use mathlib.Core.Path.{◌≡◌, refl, sym, ◌∙◌}
+use mathlib.Core.Path.{◌≡◌, sym, ◌∙◌}
 use native.Mathlib.Omega.{arith}
-use borrow.Author.Rules.{rules}
-use Rattle.lookback.specs.Last.{last_with, is_of}
+use Rattle.lookback.specs.Last.{last_with}
 use Rattle.lookback.proofs.Chains.{last_hit, last_miss}
 use Rattle.lookback.proofs.last_with.Goals as goal
 

@@ -1,10 +1,7 @@
 -- `last_with` finds the last place of a stream and a transaction, backwards. Assumes nothing.
-use Prim.Native.Nat.{◌≤◌, ◌-◌}
-use mathlib.Core.Path.{◌≡◌, refl, sym, ◌∙◌}
-use native.Mathlib.Omega.{arith}
-use borrow.Author.Rules.{rules}
+use Prim.Native.Nat.{◌≤◌}
+use mathlib.Core.Path.{◌≡◌}
 use Rattle.lookback.specs.Last.{last_with, is_of}
-use Rattle.lookback.proofs.Chains.{last_hit, last_miss}
 use Rattle.lookback.proofs.last_with.Given as goal
 
 abbrev pub invariant-loop-m : goal.invariant-loop-m

@@ -1,9 +1,7 @@
 -- `lasts` answers, for each place, the last one before it of its stream and transaction. Assumes nothing.
-use Prim.Native.Nat.{◌≤◌, ◌-◌}
-use mathlib.Core.Path.{◌≡◌}
 use native.Mathlib.Omega.{arith}
 use borrow.Author.Rules.{rules}
-use Rattle.lookback.proofs.Chains.{Built, built_none, ready, built_more}
+use Rattle.lookback.proofs.Chains.{built_none, ready, built_more}
 use Rattle.lookback.proofs.lasts.Goals as goal
 
 pub loop-i-init : goal.loop-i-init

@@ -3,7 +3,6 @@ use native.Mathlib.Omega.{arith}
 use mathlib.Core.Path.{sym, ◌∙◌}
 use Rattle.lookback.proofs.Places.{stage_made}
 use Rattle.lookback.specs.Places.{stage_at}
-use borrow.Author.Rules.{rules}
 use Rattle.lookback.proofs.stage_at.Goals as goal
 
 pub returns-then-last-eq0 : goal.returns-then-last-eq0

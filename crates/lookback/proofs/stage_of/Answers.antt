@@ -1,7 +1,6 @@
 -- `stage_of` answers the stage of a transaction in a stream. Assumes nothing.
 use mathlib.Core.Path.{sym, ◌∙◌}
 use native.Mathlib.Omega.{arith}
-use borrow.Author.Rules.{rules}
 use Rattle.lookback.specs.Last.{is_of}
 use Rattle.lookback.proofs.Chains.{last_le}
 use Rattle.lookback.proofs.Places.{stage_last}

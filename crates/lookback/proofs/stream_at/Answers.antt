@@ -1,7 +1,6 @@
 -- `stream_at` reads the place's stream. Assumes nothing.
 use mathlib.Core.Path.{sym}
 use Rattle.lookback.proofs.Places.{stream_is}
-use borrow.Author.Rules.{rules}
 use Rattle.lookback.proofs.stream_at.Goals as goal
 
 pub returns : goal.returns

@@ -1,7 +1,6 @@
 -- `transaction_at` reads the place's transaction. Assumes nothing.
 use mathlib.Core.Path.{sym, ◌∙◌}
 use Rattle.lookback.proofs.Places.{transaction_is}
-use borrow.Author.Rules.{rules}
 use Rattle.lookback.proofs.transaction_at.Goals as goal
 
 pub returns : goal.returns

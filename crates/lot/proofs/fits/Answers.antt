@@ -1,9 +1,7 @@
 -- `fits` answers the well-formedness test. Assumes nothing.
 use mathlib.Core.Path.{sym, ◌∙◌}
 use native.Mathlib.Omega.{arith}
-use borrow.Author.Tests.{not-true, not-false}
 use Rattle.lot.proofs.Looks.{head_unfit, limits, rest_fits}
-use borrow.Author.Rules.{rules}
 use Rattle.lot.proofs.fits.Goals as goal
 
 pub returns-then-not-head_fits : goal.returns-then-not-head_fits

@@ -1,6 +1,5 @@
 -- `has_tag` compares the four bytes of a tag. Assumes nothing.
 use Rattle.lot.proofs.Heads.{same_tag}
-use borrow.Author.Rules.{rules}
 use Rattle.lot.proofs.has_tag.Goals as goal
 
 pub returns : goal.returns

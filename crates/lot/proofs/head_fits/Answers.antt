@@ -1,6 +1,5 @@
 -- `head_fits` tests what the definition lists. Assumes nothing.
 use Rattle.lot.proofs.Heads.{head_test}
-use borrow.Author.Rules.{rules}
 use Rattle.lot.proofs.head_fits.Goals as goal
 
 pub returns : goal.returns

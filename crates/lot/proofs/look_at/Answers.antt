@@ -2,15 +2,9 @@
 use mathlib.Core.Path.{refl, sym, ap, ◌∙◌}
 use native.Mathlib.Omega.{arith}
 use lib.ListN.{length}
-use borrow.Author.Tests.{not-true, not-false}
 use Rattle.lot.proofs.Lengths.{length_head, length_streams, length_places}
 use Rattle.lot.proofs.Looks.{looks_free_law, looks_strange, looks_unfit, looks_held}
-use borrow.Author.Rules.{rules}
 use Rattle.lot.proofs.look_at.Goals as goal
-
---  search rules
-
---  search rules
 
 pub returns-then-has_tag : goal.returns-then-has_tag
 returns-then-has_tag c =
@@ -37,7 +31,7 @@ returns-then-not-fits c =
     let h = c.head_of-head in
     let s = c.streams_of in
     let p = c.places_of in
-    looks_unfit c.args.lot.now (sym (rw h.ensures at c.has_tag.ensures) ∙ c.if-has_tag.false) (sym (rw h.ensures at c.has_tag-2.ensures) ∙ c.if-not-has_tag.false) (sym (rw (h.ensures, s.ensures, p.ensures) at c.fits2.ensures) ∙ c.if-not-fits.true)
+    looks_unfit c.args.lot.now (sym (rw h.ensures at c.has_tag.ensures) ∙ c.if-has_tag.false) (sym (rw h.ensures at c.has_tag-2.ensures) ∙ c.if-not-has_tag.false) (sym (rw (h.ensures, s.ensures, p.ensures) at c.fits.ensures) ∙ c.if-not-fits.true)
 
 pub read-requires : goal.read-requires
 read-requires c =
@@ -49,4 +43,4 @@ returns c =
     let h = c.head_of-head in
     let s = c.streams_of in
     let p = c.places_of in
-    looks_held c.args.lot.now (sym (rw h.ensures at c.has_tag.ensures) ∙ c.if-has_tag.false) (sym (rw h.ensures at c.has_tag-2.ensures) ∙ c.if-not-has_tag.false) (sym (rw (h.ensures, s.ensures, p.ensures) at c.fits2.ensures) ∙ c.if-not-fits.false) c.read.result (rw h.ensures at c.read.ensures)
+    looks_held c.args.lot.now (sym (rw h.ensures at c.has_tag.ensures) ∙ c.if-has_tag.false) (sym (rw h.ensures at c.has_tag-2.ensures) ∙ c.if-not-has_tag.false) (sym (rw (h.ensures, s.ensures, p.ensures) at c.fits.ensures) ∙ c.if-not-fits.false) c.read.result (rw h.ensures at c.read.ensures)

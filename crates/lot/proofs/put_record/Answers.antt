@@ -1,9 +1,5 @@
 -- `put_record` leaves the records with that value. Assumes nothing.
-use mathlib.Core.Path.{◌∙◌}
-use native.Mathlib.Omega.{arith}
-use lib.ListN.{length-set}
 use Rattle.lot.specs.Writing.{with_record}
-use borrow.Author.Rules.{rules}
 use Rattle.lot.proofs.put_record.Goals as goal
 
 pub returns : goal.returns

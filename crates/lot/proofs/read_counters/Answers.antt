@@ -1,7 +1,6 @@
 -- `read_counters` answers the counters of a stream. Assumes nothing.
 use Prim.Native.Nat.{◌*◌}
 use Rattle.lot.proofs.Counters.{counters_at_law}
-use borrow.Author.Rules.{rules}
 use Rattle.lot.proofs.read_counters.Goals as goal
 
 pub returns : goal.returns

@@ -1,7 +1,6 @@
 -- `read_record` answers the record. Assumes nothing.
 use borrow.Author.Tests.{eq-eqb, ne_eqb}
 use Rattle.lot.specs.View.{record_at}
-use borrow.Author.Rules.{rules}
 use Rattle.lot.proofs.read_record.Goals as goal
 
 pub returns-then-records-at-eq0 : goal.returns-then-records-at-eq0

@@ -1,7 +1,5 @@
 -- `record_of` answers the record that the lot shows. Assumes nothing.
-use mathlib.Core.Path.{◌∙◌}
 use Rattle.lot.proofs.Lengths.{length_records}
-use borrow.Author.Rules.{rules}
 use Rattle.lot.proofs.record_of.Goals as goal
 
 pub read_record-requires : goal.read_record-requires

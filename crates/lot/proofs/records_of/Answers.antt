@@ -1,6 +1,5 @@
 -- `records_of` answers the last section. Assumes nothing.
 use Rattle.lot.proofs.Lengths.{records_part}
-use borrow.Author.Rules.{rules}
 use Rattle.lot.proofs.records_of.Goals as goal
 
 pub returns : goal.returns

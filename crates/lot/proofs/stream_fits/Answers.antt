@@ -2,7 +2,6 @@
 use mathlib.Core.Bool.{and-true}
 use Rattle.model.specs.Lists.{every}
 use Rattle.lot.specs.View.{stream_fits}
-use borrow.Author.Rules.{rules}
 use Rattle.lot.proofs.stream_fits.Goals as goal
 
 pub returns : goal.returns

@@ -1,10 +1,7 @@
 -- `streams_fit` tests each stream below n. The invariant: the answer so far is that of the streams below i. Assumes nothing.
 use Prim.Native.Nat.{◌≤◌, ◌-◌}
-use mathlib.Core.Path.{◌≡◌, refl}
-use native.Mathlib.Numerals.{add-one}
-use native.Mathlib.Omega.{arith}
+use mathlib.Core.Path.{◌≡◌}
 use Rattle.lot.specs.View.{all_below, stream_fits}
-use borrow.Author.Rules.{rules}
 use Rattle.lot.proofs.streams_fit.Given as goal
 
 abbrev pub invariant-loop-i : goal.invariant-loop-i

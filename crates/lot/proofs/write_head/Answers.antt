@@ -1,12 +1,9 @@
 -- `write_head` leaves the bytes of a head. Assumes nothing.
 use native.Mathlib.Omega.{arith}
 use Rattle.lot.proofs.Heads.{head_written}
-use borrow.Author.Rules.{rules}
 use Rattle.lot.proofs.write_head.Goals as goal
-
---  search rules
 
 pub returns : goal.returns
 returns c =
     let a = c.args in
-    cc (head_written a.head-1.now a.account (omega arith) (omega arith))
+    cc (head_written a.head.now a.account (omega arith) (omega arith))

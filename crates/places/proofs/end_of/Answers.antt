@@ -1,9 +1,7 @@
 -- `end_of` finds the end of a stream's entries, backwards. Assumes nothing.
-use Prim.Native.Nat.{◌≤◌, ◌-◌}
-use mathlib.Core.Path.{◌≡◌, refl, sym, ◌∙◌}
+use Prim.Native.Nat.{◌-◌}
+use mathlib.Core.Path.{◌≡◌, sym, ◌∙◌}
 use native.Mathlib.Omega.{arith}
-use borrow.Author.Rules.{rules}
-use Rattle.places.specs.Places.{end_of}
 use Rattle.places.proofs.Ends.{end_start, end_hit, end_miss}
 use Rattle.places.proofs.end_of.Goals as goal
 

@@ -1,10 +1,7 @@
 -- `end_of` finds the end of a stream's entries, backwards. Assumes nothing.
-use Prim.Native.Nat.{◌≤◌, ◌-◌}
-use mathlib.Core.Path.{◌≡◌, refl, sym, ◌∙◌}
-use native.Mathlib.Omega.{arith}
-use borrow.Author.Rules.{rules}
+use Prim.Native.Nat.{◌≤◌}
+use mathlib.Core.Path.{◌≡◌}
 use Rattle.places.specs.Places.{end_of}
-use Rattle.places.proofs.Ends.{end_start, end_hit, end_miss}
 use Rattle.places.proofs.end_of.Given as goal
 
 abbrev pub invariant-loop-p : goal.invariant-loop-p

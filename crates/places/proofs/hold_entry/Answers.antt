@@ -1,6 +1,6 @@
 -- `hold_entry` puts the entry, as it is held, at the end of its stream's entries. Assumes nothing.
 use native.Mathlib.Omega.{arith}
-use borrow.Author.Rules.{rules}
+use lib.Seq.{take-length}
 use Rattle.places.proofs.Placed.{hold_is}
 use Rattle.places.proofs.hold_entry.Goals as goal
 
@@ -14,5 +14,5 @@ returns c =
     let w = v in
     let start = w in
     let a = start.args in
-    hold_is a.held-1.now i.insert.new.held a.entry.now w.copy.new.to v.put16.new.s u.put32.new.s a.n a.epoch f.end_of_lem.result
-    (omega arith) (omega arith) (omega arith) (omega (arith, start.ranges)) f.end_of_lem.ensures.0 f.end_of_lem.ensures.1 w.copy.ensures.1 v.put16.ensures u.put32.ensures i.insert.ensures
+    hold_is a.held.now i.insert.new.held a.entry.now w.copy.new.to v.put16.new.s u.put32.new.s a.n a.epoch f.end_of-p.result
+    (omega arith) (omega arith) (omega arith) (omega (arith, start.ranges)) f.end_of-p.ensures.0 f.end_of-p.ensures.1 (rw take-length w.copy.ensures) v.put16.ensures u.put32.ensures i.insert.ensures

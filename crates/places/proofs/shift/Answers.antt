@@ -1,10 +1,9 @@
 -- `shift` moves the bytes on by one place, the last first, so that none is lost. Assumes nothing.
-use Prim.Native.Nat.{◌≤◌, ◌-◌}
-use mathlib.Core.Path.{◌≡◌, refl}
+use Prim.Native.Nat.{◌-◌}
+use mathlib.Core.Path.{refl}
 use native.Mathlib.Omega.{arith}
-use lib.ListN.{length, length-set}
+use lib.ListN.{length-set}
 use borrow.Author.Rules.{rules}
-use Rattle.places.specs.Moves.{shifted}
 use Rattle.places.proofs.Moves.{shift_step, shift_none}
 use Rattle.places.proofs.shift.Goals as goal
 

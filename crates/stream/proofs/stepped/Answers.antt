@@ -1,5 +1,5 @@
 -- `stepped` answers the counters after a taken entry. Assumes nothing.
-use Rattle.std.proofs.Common.{add-one, arith, rules}
+use Rattle.std.proofs.Common.{add-one}
 use Rattle.model.specs.Taking.{stepped}
 use Rattle.stream.proofs.stepped.Goals as goal
 

@@ -1,10 +1,9 @@
 -- `commits_at` answers whether the entry that looking back found is a CC that is looked at. Assumes nothing.
-use mathlib.Core.Path.{◌≡◌, sym, ◌∙◌}
+use mathlib.Core.Path.{sym}
 use native.Mathlib.Omega.{arith}
-use mathlib.Core.Path.{sym, ◌∙◌}
+use mathlib.Core.Path.{sym}
 use Rattle.verdicts.specs.Verdicts.{commits_at}
 use Rattle.verdicts.proofs.Deciding.{commits_made}
-use borrow.Author.Rules.{rules}
 use Rattle.verdicts.proofs.commits_at.Goals as goal
 
 pub returns-then-last-eq0 : goal.returns-then-last-eq0

@@ -1,5 +1,5 @@
 -- `decided_by` answers the verdict that a place decides. Assumes nothing.
-use mathlib.Core.Path.{◌≡◌, sym, ◌∙◌}
+use mathlib.Core.Path.{sym, ◌∙◌}
 use Rattle.verdicts.specs.Verdicts.{flagged_at}
 use mathlib.Core.Path.{ap}
 use native.Mathlib.Omega.{arith}
@@ -9,7 +9,6 @@ use Rattle.model.specs.Section.{item_at}
 use Rattle.lookback.proofs.Chains.{last_le}
 use Rattle.verdicts.proofs.Deciding.{by_A, by_CC, by_CP, by_other}
 use mathlib.Core.Bool.{true, false}
-use borrow.Author.Rules.{rules}
 use Rattle.verdicts.proofs.decided_by.Goals as goal
 
 pub returns-then-kind-eq-A : goal.returns-then-kind-eq-A

@@ -1,10 +1,8 @@
 -- `decider_of` answers what was found, or the place itself if it is looked at. Assumes nothing.
-use mathlib.Core.Path.{◌≡◌, sym, ◌∙◌}
+use mathlib.Core.Path.{◌≡◌}
 use native.Mathlib.Omega.{arith}
-use mathlib.Core.Path.{sym, ◌∙◌}
 use Rattle.verdicts.specs.Verdicts.{decider_of}
 use borrow.Author.Tests.{ne_eqb, le-leb, lt-leb}
-use borrow.Author.Rules.{rules}
 use Rattle.verdicts.proofs.decider_of.Goals as goal
 
 pub returns-then-found-ne0 : goal.returns-then-found-ne0

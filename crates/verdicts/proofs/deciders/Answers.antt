@@ -1,14 +1,11 @@
 -- `deciders` finds, for each place, the last one of its transaction that is looked at. Assumes nothing.
 use Rattle.lookback.specs.Last.{Lasts}
-use Rattle.verdicts.proofs.Backwards.{Found, found_none, found_turn, found_all, lasts_low}
-use borrow.Author.Rules.{rules}
+use Rattle.verdicts.proofs.Backwards.{found_none, found_turn, found_all, lasts_low}
 use native.Mathlib.Omega.{arith}
-use Prim.Native.Nat.{◌≤◌, ◌-◌}
+use Prim.Native.Nat.{◌-◌}
 use mathlib.Core.Path.{◌≡◌, ◌∙◌}
-use Rattle.lookback.specs.Last.{Lasts, is_of}
-use Rattle.model.specs.Section.{item_at}
-use Rattle.lookback.proofs.Chains.{last_le}
-use Rattle.verdicts.proofs.Backwards.{Found, found_none, found_turn, found_all}
+use Rattle.lookback.specs.Last.{Lasts}
+use Rattle.verdicts.proofs.Backwards.{found_none, found_turn, found_all}
 use Rattle.verdicts.proofs.deciders.Goals as goal
 
 pub loop-m-init : goal.loop-m-init

@@ -1,11 +1,10 @@
 -- `decides` answers whether a stream has the CC, by its last place. Assumes nothing.
-use mathlib.Core.Path.{◌≡◌, sym, ◌∙◌}
-use mathlib.Core.Path.{sym, ◌∙◌}
+use mathlib.Core.Path.{◌∙◌}
+use mathlib.Core.Path.{◌∙◌}
 use Rattle.lookback.specs.Last.{is_of}
 use native.Mathlib.Omega.{arith}
 use Rattle.verdicts.specs.Verdicts.{decides}
 use Rattle.lookback.proofs.Chains.{last_le}
-use borrow.Author.Rules.{rules}
 use Rattle.verdicts.proofs.decides.Goals as goal
 
 pub commits_at-requires : goal.commits_at-requires

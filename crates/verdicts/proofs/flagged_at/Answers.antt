@@ -1,10 +1,9 @@
 -- `flagged_at` answers whether the entry that looking back found is flagged. Assumes nothing.
-use mathlib.Core.Path.{◌≡◌, sym, ◌∙◌}
+use mathlib.Core.Path.{sym, ◌∙◌}
 use native.Mathlib.Omega.{arith}
 use mathlib.Core.Path.{sym, ◌∙◌}
 use Rattle.verdicts.specs.Verdicts.{flagged_at}
 use Rattle.verdicts.proofs.Deciding.{flagged_made}
-use borrow.Author.Rules.{rules}
 use Rattle.verdicts.proofs.flagged_at.Goals as goal
 
 pub returns-then-last-eq0 : goal.returns-then-last-eq0

@@ -1,15 +1,11 @@
 -- `number_of` answers the verdict of a place, those after it being known. Assumes nothing.
-use Prim.Native.Nat.{◌≤◌, ◌-◌}
+use Prim.Native.Nat.{◌-◌}
 use Rattle.lookback.specs.Last.{Lasts}
-use Rattle.verdicts.specs.Verdicts.{Known}
 use Rattle.verdicts.proofs.Backwards.{number_LATER, number_own, number_later, known_decider}
 use native.Mathlib.Omega.{arith}
-use Prim.Native.Nat.{◌≤◌, ◌-◌, ◌<◌, suc}
-use mathlib.Core.Path.{◌≡◌, sym, ◌∙◌}
-use native.Mathlib.Numerals.{add-one}
-use Rattle.verdicts.specs.Verdicts.{Known, decider_at, Deciders}
-use Rattle.verdicts.proofs.Backwards.{number_LATER, number_own, number_later, decider_reaches}
-use borrow.Author.Rules.{rules}
+use Prim.Native.Nat.{◌-◌}
+use mathlib.Core.Path.{◌∙◌}
+use Rattle.verdicts.proofs.Backwards.{number_LATER, number_own, number_later}
 use Rattle.verdicts.proofs.number_of.Goals as goal
 
 pub returns-then-epoch-epoch_at : goal.returns-then-epoch-epoch_at
@@ -39,5 +35,5 @@ pub returns : goal.returns
 returns c = let k = c.requires in
     let l = rw c.epoch_at.ensures at c.if-epoch-epoch_at.false in
     let m = c.wide16-m in
-    let r = known_decider k m.result-1 m.ensures l in
-    k.known (m.result-1 - 1) (omega (arith, r.1, c.if-m-i.false)) (omega (arith, r.1, r.2)) ∙ number_later _ _ _ _ l m.result-1 r.0 (omega (arith, r.1))
+    let r = known_decider k m.result m.ensures l in
+    k.known (m.result - 1) (omega (arith, r.1, c.if-m-i.false)) (omega (arith, r.1, r.2)) ∙ number_later _ _ _ _ l m.result r.0 (omega (arith, r.1))

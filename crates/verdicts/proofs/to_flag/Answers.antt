@@ -1,9 +1,7 @@
 -- `to_flag` answers whether a place is a P that is to be flagged. Assumes nothing.
-use mathlib.Core.Path.{◌≡◌, sym, ◌∙◌}
-use native.Mathlib.Omega.{arith}
+use mathlib.Core.Path.{sym, ◌∙◌}
 use mathlib.Core.Path.{sym, ◌∙◌}
 use Rattle.verdicts.proofs.Deciding.{flag_other, flag_flagged, flag_asks}
-use borrow.Author.Rules.{rules}
 use Rattle.verdicts.proofs.to_flag.Goals as goal
 
 pub returns-then-kind_at-ne-P : goal.returns-then-kind_at-ne-P

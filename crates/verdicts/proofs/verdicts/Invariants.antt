@@ -1,13 +1,11 @@
 -- `verdicts` answers the verdict of each place. Assumes nothing.
-use Prim.Native.Nat.{◌≤◌, ◌-◌}
-use borrow.Author.Rules.{rules}
-use native.Mathlib.Omega.{arith}
-use Prim.Native.Nat.{◌≤◌, ◌-◌, suc}
-use mathlib.Core.Path.{◌≡◌, refl}
-use lib.ListN.{length, length-set}
+use Prim.Native.Nat.{◌≤◌}
+use Prim.Native.Nat.{◌≤◌}
+use mathlib.Core.Path.{◌≡◌}
+use lib.ListN.{length}
 use Rattle.lookback.specs.Last.{Indexed}
-use Rattle.verdicts.specs.Verdicts.{Known, Verdicts, Deciders}
-use Rattle.verdicts.proofs.Backwards.{KnownFrom, known_turn}
+use Rattle.verdicts.specs.Verdicts.{Deciders}
+use Rattle.verdicts.proofs.Backwards.{KnownFrom}
 use Rattle.verdicts.proofs.verdicts.Given as goal
 
 abbrev pub invariant-loop-m : goal.invariant-loop-m

@@ -1,6 +1,5 @@
 -- `Account::read` answers the numbers in a head. Assumes nothing.
 use Rattle.lot.specs.Head.{numbers_of}
-use borrow.Author.Rules.{rules}
 use Rattle.lot.proofs.Account.read.Goals as goal
 
 pub returns : goal.returns
