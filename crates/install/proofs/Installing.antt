@@ -1,6 +1,6 @@
 -- One piece installed, and one list of pieces after another. Assumes nothing.
 use Prim.Native.Nat.{ℕ, zero, suc, ◌+◌, ◌*◌, ◌≤◌, ◌<◌}
-use mathlib.Core.Path.{◌≡◌, refl, sym, ap, subst, ◌∙◌}
+use mathlib.Core.Path.{◌≡◌, refl, sym, subst, ◌∙◌}
 use mathlib.Core.Bool.{Bool, true, false, not, ◌&&◌, ◌||◌}
 use mathlib.Core.List.{List, [], ◌∷◌, ◌++◌}
 use native.Mathlib.Omega.{arith}
@@ -27,12 +27,12 @@ module _ (h : List ℕ) (s : ℕ) where
   with_append l p [] js = let z : p + 0 ≡ p = omega arith in rw z
   with_append l p (i ∷ is) js =
       let z : p + suc (length is) ≡ suc p + length is = omega arith in
-      with_append _ (suc p) is js ∙ rw z
+      with_append (set (set l (p * 2) s) (p * 2 + 1) (item_at h i).entry.transaction) (suc p) is js ∙ rw z
 
   pub length_with : (l : List ℕ) (p : ℕ) (is : List ℕ) → length (with_pieces h l p s is) ≡ length l
   unfolding with_pieces
   length_with l p [] = refl
-  length_with l p (i ∷ is) = length_with _ (suc p) is ∙ simp length-set
+  length_with l p (i ∷ is) = length_with (set (set l (p * 2) s) (p * 2 + 1) (item_at h i).entry.transaction) (suc p) is ∙ simp length-set
 
   pub after_append : (is js : List ℕ) (k : ℕ) (y : Record) → after_pieces h (is ++ js) k y ≡ after_pieces h js k (after_pieces h is k y)
   unfolding after_pieces

@@ -1,5 +1,5 @@
 -- The places of a transaction, from its first to the next: the tables and the walk. Assumes nothing.
-use Prim.Native.Nat.{ℕ, zero, suc, ◌+◌, ◌*◌, ◌-◌, ◌≤◌, ◌<◌}
+use Prim.Native.Nat.{ℕ, zero, suc, ◌+◌, ◌-◌, ◌≤◌, ◌<◌}
 use mathlib.Core.Path.{◌≡◌, refl, sym, ap, subst, ◌∙◌}
 use mathlib.Core.Bool.{Bool, true, false, ◌&&◌, and-true, and-false}
 use mathlib.Core.List.{List, [], ◌∷◌, ◌++◌, append-nil}
@@ -23,7 +23,7 @@ use Rattle.lookback.proofs.Chains.{last_le, last_passes}
 use Rattle.verdicts.specs.Verdicts.{held_in}
 use Rattle.verdicts.proofs.ByLast.{own}
 use Rattle.verdicts.proofs.Backwards.{last_reaches}
-use Rattle.install.specs.Writes.{Changed, write_of, writes_before}
+use Rattle.install.specs.Writes.{Changed, write_of}
 use Rattle.install.specs.Order.{own_of, Nexts, First}
 use Rattle.install.proofs.Written.{change_same, change_none, change_more}
 

@@ -1,23 +1,22 @@
 -- The pieces that the numbers pick are the model's pieces, and installing them leaves the model's records. Assumes nothing.
-use Prim.Native.Nat.{ℕ, zero, suc, ◌+◌, ◌*◌, ◌≤◌, ◌<◌}
+use Prim.Native.Nat.{ℕ, zero, suc, ◌+◌, ◌≤◌, ◌<◌}
 use mathlib.Core.Path.{◌≡◌, refl, sym, ap, ◌∙◌}
 use mathlib.Core.Logic.{⊎_elim}
-use mathlib.Core.Bool.{Bool, true, false, not, ◌&&◌, ◌||◌, and-true, and-false}
+use mathlib.Core.Bool.{Bool, true, false, ◌&&◌, ◌||◌, and-true, and-false}
 use mathlib.Core.List.{List, [], ◌∷◌, ◌++◌, map, map-append, append-nil}
 use native.Mathlib.Omega.{arith}
 use native.Mathlib.Decide.{ℕ_discrete}
-use borrow.Author.Tests.{eq-eqb, ne_eqb, eqb-true, le-leb, lt-leb, leb-true, leb-false}
+use borrow.Author.Tests.{ne_eqb, eqb-true, le-leb, lt-leb, leb-true, leb-false}
 use lib.Dec.{leb, eqb}
 use lib.ListN.{length, get_or, length-append}
 use Rattle.std.specs.Prelude.{if◌then◌else◌}
 use Rattle.model.specs.Lists.{filter, sum_below}
 use Rattle.model.specs.Entry.{DELETE, P, CC, CP}
 use Rattle.model.specs.Account.{Held, Record}
-use Rattle.model.specs.Closing.{upto, Verdict, free, install, flag, stay, verdict, committed, installs, flags, pieces, writes_to, written, after_writes, apply}
+use Rattle.model.specs.Closing.{upto, Verdict, free, install, flag, stay, verdict, committed, installs, flags, pieces, writes_to, after_writes, apply}
 use Rattle.model.specs.Stages.{stage_after, takes}
-use Rattle.model.specs.declared.Stage.{Stage}
 use Rattle.model.specs.declared.Stage.TheVariants.{Prepared, Ended}
-use Rattle.model.specs.Decoding.{item_of, parse, mine}
+use Rattle.model.specs.Decoding.{parse, mine}
 use Rattle.model.proofs.Tests.{no_way, and_l, and_r, either, filter_append}
 use Rattle.model.proofs.Sums.{sum_most}
 use Rattle.model.specs.Section.{item_at}

@@ -1,7 +1,7 @@
 -- The records after the write of one place, and one change after another. Assumes nothing.
-use Prim.Native.Nat.{ℕ, ◌+◌, ◌*◌, ◌≤◌, ◌<◌, ◌^◌}
+use Prim.Native.Nat.{ℕ, ◌≤◌, ◌<◌, ◌^◌}
 use mathlib.Core.Path.{◌≡◌, refl, sym, ap, ◌∙◌}
-use mathlib.Core.Bool.{Bool, true, false, ◌&&◌}
+use mathlib.Core.Bool.{Bool, true, false}
 use mathlib.Core.List.{List}
 use native.Mathlib.Omega.{arith}
 use borrow.Author.Tests.{eq-eqb, ne_eqb, eqb-true, eqb-false, lt-leb, le-leb}
@@ -9,8 +9,8 @@ use lib.Dec.{leb, eqb}
 use lib.ListN.{length}
 use Rattle.std.specs.Prelude.{if◌then◌else◌}
 use Rattle.model.specs.Entry.{PUT, DELETE}
-use Rattle.model.specs.Account.{Held, Record, absent, present, key}
-use Rattle.model.specs.Closing.{writes_to, written}
+use Rattle.model.specs.Account.{Record, absent, present, key}
+use Rattle.model.specs.Closing.{written}
 use Rattle.model.specs.Image.{Item}
 use Rattle.lot.specs.View.{record_at}
 use Rattle.lot.specs.Writing.{with_record, without_record}

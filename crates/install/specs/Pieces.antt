@@ -1,11 +1,9 @@
 -- The pieces that the numbers of the verdicts pick, as places, and what installing them leaves in list and records.
-use Rattle.std.specs.Prelude.{ℕ, zero, suc, ◌+◌, ◌*◌, ◌<◌, ◌≡◌, Bool, true, false, not, ◌&&◌, ◌||◌, List, [], ◌∷◌, ◌++◌, map, ltb, eqb, length, get_or, set, if◌then◌else◌}
+use Rattle.std.specs.Prelude.{ℕ, zero, suc, ◌+◌, ◌*◌, ◌<◌, ◌≡◌, Bool, true, false, ◌&&◌, ◌||◌, List, [], ◌∷◌, ◌++◌, ltb, eqb, length, get_or, set, if◌then◌else◌}
 use Rattle.model.specs.Lists.{sum_below}
 use Rattle.model.specs.Entry.{P, CC, CP}
 use Rattle.model.specs.Account.{Record}
 use Rattle.model.specs.Section.{item_at}
-use Rattle.lookback.specs.Last.{Lasts}
-use Rattle.verdicts.specs.Orderly.{Orderly}
 use Rattle.lot.specs.View.{record_at}
 use Rattle.install.specs.Writes.{Changed, writes_before}
 

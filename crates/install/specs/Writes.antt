@@ -1,5 +1,5 @@
 -- The records after the write of one place, and after a transaction's writes in its stream.
-use Rattle.std.specs.Prelude.{ℕ, ◌<◌, ◌≡◌, Bool, ◌&&◌, List, eqb, length, if◌then◌else◌}
+use Rattle.std.specs.Prelude.{ℕ, ◌<◌, ◌≡◌, List, eqb, length, if◌then◌else◌}
 use Rattle.model.specs.Account.{Record}
 use Rattle.model.specs.Closing.{writes_to, written, after_writes}
 use Rattle.model.specs.Image.{Item}

@@ -1,21 +1,20 @@
 -- A place written after others, and what it leaves of the items there. Assumes nothing.
-use Prim.Native.Nat.{ℕ, zero, suc, ◌+◌, ◌*◌, ◌-◌, ◌≤◌, ◌<◌}
+use Prim.Native.Nat.{ℕ, ◌+◌, ◌*◌, ◌-◌, ◌<◌}
 use mathlib.Core.Path.{◌≡◌, refl, sym, ap, ◌∙◌}
-use mathlib.Core.Bool.{Bool, true, false, ◌&&◌, and-true}
+use mathlib.Core.Bool.{Bool, true, false, ◌&&◌}
 use mathlib.Core.List.{List, [], ◌∷◌, ◌++◌, append-nil}
 use native.Mathlib.Omega.{arith}
 use native.Mathlib.Numerals.{add-one}
-use lib.Dec.{leb, eqb}
+use lib.Dec.{eqb}
 use lib.ListN.{length, get_or, set, take, drop, replicate, length-set}
 use lib.Seq.{get_or-set_same, get_or-set_other, get_or-take, take-length, set-get_or}
 use Rattle.wire.specs.Numbers.{number16, number32}
 use Rattle.wire.specs.Laws.{Same}
 use Rattle.std.specs.Prelude.{if◌then◌else◌}
 use Rattle.model.specs.Lists.{every}
-use Rattle.model.specs.Image.{Item}
 use Rattle.model.specs.Decoding.{item_of, parse}
 use Rattle.model.proofs.Tests.{and_l, and_r, nth, every_append}
-use Rattle.model.specs.Section.{plain_place, plain, item_at, items}
+use Rattle.model.specs.Section.{plain_place, plain, items}
 use Rattle.lookback.proofs.Places.{parse_more}
 use Rattle.places.specs.Moves.{inserted}
 use Rattle.places.proofs.Sections.{insert_parts}
