@@ -1,0 +1,12 @@
+-- `missing_marks` answers the byte of missing streams and its ones, as many as the streams without the mark. Assumes nothing.
+use native.Mathlib.Omega.{arith}
+use mathlib.Core.Path.{◌≡◌, refl, sym, ap, ◌∙◌}
+use lib.Count.{ones}
+use Rattle.epoch.specs.Missing.{missing_in}
+use Rattle.epoch.proofs.Bits.{ones_bits, count_le}
+use borrow.Author.Rules.{rules}
+use Rattle.epoch.proofs.missing_marks.Goals as goal
+
+pub returns : goal.returns
+returns c = let a = c.args in
+    record { bits = c.missing_byte-byte.ensures; many = ap ones c.missing_byte-byte.ensures ∙ ones_bits (missing_in a.streams.now a.closed) a.fragments }

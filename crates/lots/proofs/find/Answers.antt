@@ -1,0 +1,22 @@
+-- `find` answers what the named lot and account are. Assumes nothing.
+use mathlib.Core.Path.{sym, ◌∙◌}
+use borrow.Author.Tests.{not-true, not-false}
+use Rattle.lots.proofs.Parts.{lot_inside}
+use Rattle.lots.proofs.Looks.{not_there, finds}
+use borrow.Author.Rules.{rules}
+use Rattle.lots.proofs.find.Goals as goal
+
+pub returns-then-not-lot_fits : goal.returns-then-not-lot_fits
+returns-then-not-lot_fits c =
+    let a = c.args in
+    not_there a.memory.now a.lots a.lot a.account (sym c.lot_fits.ensures ∙ c.if-not-lot_fits.true)
+
+pub look_in-requires : goal.look_in-requires
+look_in-requires c =
+    let a = c.args in
+    lot_inside a.lots a.lot a.memory.now (sym c.lot_fits.ensures ∙ c.if-not-lot_fits.false)
+
+pub returns : goal.returns
+returns c =
+    let a = c.args in
+    cc (c.find_in.ensures, c.look_in.ensures, finds a.memory.now a.lots a.lot a.account (sym c.lot_fits.ensures ∙ c.if-not-lot_fits.false))

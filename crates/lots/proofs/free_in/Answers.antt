@@ -1,0 +1,14 @@
+-- `free_in` frees one lot. Assumes nothing.
+use Rattle.lots.proofs.Parts.{part, lent}
+use mathlib.Core.Path.{◌∙◌, ap}
+use native.Mathlib.Omega.{arith}
+use Rattle.lot.specs.View.{view_lot}
+use Rattle.writes.proofs.Fresh.{freed}
+use borrow.Author.Rules.{rules}
+use Rattle.lots.proofs.free_in.Goals as goal
+
+pub returns : goal.returns
+returns c =
+    let a = c.args in
+    let f = c.free_lot in
+    lent a.memory.now a.lot f.new.lot (omega arith) f.auto.lot (ap view_lot f.ensures ∙ freed (part a.memory.now a.lot))

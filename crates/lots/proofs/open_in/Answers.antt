@@ -1,0 +1,11 @@
+-- `open_in` opens an account in one lot. Assumes nothing.
+use native.Mathlib.Omega.{arith}
+use Rattle.lots.proofs.Parts.{lent}
+use borrow.Author.Rules.{rules}
+use Rattle.lots.proofs.open_in.Goals as goal
+
+pub returns : goal.returns
+returns c =
+    let a = c.args in
+    let f = c.open_lot in
+    lent a.memory.now a.lot f.new.lot (omega arith) f.auto.lot f.ensures
