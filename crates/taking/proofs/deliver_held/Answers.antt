@@ -11,10 +11,10 @@ returns-in-Done c =
     let t = c in
     let j = t in
     let s = j in
-    done s.args.lot.now s.args.bytes.now s.args.number s.requires j.if-account-number.false t.take_entry.new.lot (rw t.enum_told.given.1 at j.judge_lot.ensures) t.take_entry.ensures
+    done s.args.lot.now s.args.bytes.now s.args.number s.requires j.if-account-number.false t.take_entry.new.lot c.in-Done.ensures t.take_entry.ensures
 
 pub returns-in-Refused : goal.returns-in-Refused
 returns-in-Refused c =
     let j = c in
     let s = j in
-    refused s.args.lot.now s.args.bytes.now s.args.number s.requires j.if-account-number.false (rw c.why.given.1 at j.judge_lot.ensures)
+    refused s.args.lot.now s.args.bytes.now s.args.number s.requires j.if-account-number.false c.in-Refused.ensures

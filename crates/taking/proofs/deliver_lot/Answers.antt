@@ -8,10 +8,10 @@ pub returns-in-Damaged : goal.returns-in-Damaged
 returns-in-Damaged c =
     let k = c in
     let s = k in
-    damaged s.args.lot.now s.args.bytes.now s.args.number (sym k.look_at.ensures ∙ c.enum_told.given.1)
+    damaged s.args.lot.now s.args.bytes.now s.args.number (sym c.in-Damaged.ensures)
 
 pub returns-in-Free : goal.returns-in-Free
 returns-in-Free c =
     let k = c in
     let s = k in
-    free s.args.lot.now s.args.bytes.now s.args.number (sym k.look_at.ensures ∙ c.enum-told2.given.1)
+    free s.args.lot.now s.args.bytes.now s.args.number (sym c.in-Free.ensures)

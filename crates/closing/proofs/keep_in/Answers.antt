@@ -1,0 +1,11 @@
+-- `keep_in` writes what stays held into the places of the lot, and the other sections stay. Assumes nothing.
+use native.Mathlib.Omega.{arith}
+use Rattle.closing.proofs.ClosedLot.{places_kept}
+use borrow.Author.Rules.{rules}
+use Rattle.closing.proofs.keep_in.Goals as goal
+
+pub returns : goal.returns
+returns c =
+    let f = c.keep_survivors in
+    let s = c in
+    places_kept s.args.lot.now f.new.section s.requires.0 (omega arith) f.ensures.0 f.ensures.1

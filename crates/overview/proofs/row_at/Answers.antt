@@ -1,0 +1,20 @@
+-- `row_at` answers the row of one lot, if there is such a lot. Assumes nothing.
+use mathlib.Core.Path.{sym, ◌∙◌}
+use borrow.Author.Tests.{not-true, not-false}
+use Rattle.overview.specs.Overview.{row_at}
+use Rattle.lots.proofs.Parts.{lot_inside}
+use borrow.Author.Rules.{rules}
+use Rattle.overview.proofs.row_at.Goals as goal
+
+pub returns-then-not-lot_fits : goal.returns-then-not-lot_fits
+unfolding row_at
+returns-then-not-lot_fits c = rw (sym c.lot_fits.ensures ∙ c.if-not-lot_fits.true) c.row_of.ensures
+
+pub row_in-requires : goal.row_in-requires
+row_in-requires c =
+    let a = c.args in
+    lot_inside a.lots a.lot a.memory.now (sym c.lot_fits.ensures ∙ c.if-not-lot_fits.false)
+
+pub returns : goal.returns
+unfolding row_at
+returns c = rw (sym c.lot_fits.ensures ∙ c.if-not-lot_fits.false) c.row_in.ensures
