@@ -18,7 +18,7 @@ install_in-applied-requires c =
     let k = n in
     let s = k in (
       s.requires.looked.size,
-      rw (n.snapshot-old.ensures, n.places_of.ensures) (closable s.args.lot.now s.requires.looked (λ i. omega (arith, (k.slice-known.given i).fits)) s.args.list.now s.requires.room),
+      rw (n.snapshot-old.ensures, n.places_of.ensures) (closable s.args.lot.now s.requires.looked (λ i. omega (arith, c.type_inv.lot i)) s.args.list.now s.requires.room),
     )
 
 pub keep_in-left-requires : goal.keep_in-left-requires
@@ -31,7 +31,7 @@ pub closed_numbers-requires : goal.closed_numbers-requires
 closed_numbers-requires c =
     let k = c in
     let s = k in
-    next_epoch s.args.lot.now s.requires.looked (λ i. omega (arith, (k.slice-known.given i).fits))
+    next_epoch s.args.lot.now s.requires.looked (λ i. omega (arith, c.type_inv.lot i))
 
 pub returns : goal.returns
 returns c =

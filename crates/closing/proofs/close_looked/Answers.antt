@@ -11,7 +11,7 @@ returns-then-account-number c =
 pub close_held-requires : goal.close_held-requires
 close_held-requires c =
     let s = c in
-    due s.args.lot.now s.args.list.now s.args.number s.requires (rw c.enum_told.given.1 at c.judge_lot.ensures)
+    due s.args.lot.now s.args.list.now s.args.number s.requires c.in-Done.ensures
 
 pub returns-in-Done : goal.returns-in-Done
 returns-in-Done c =

@@ -7,9 +7,9 @@ use Rattle.closing.proofs.close_lot.Goals as goal
 pub returns-in-Damaged : goal.returns-in-Damaged
 returns-in-Damaged c =
     let s = c in
-    damaged s.args.lot.now s.args.list.now s.args.number (sym c.in-Damaged.ensures
+    damaged s.args.lot.now s.args.list.now s.args.number (sym c.in-Damaged.ensures)
 
 pub returns-in-Free : goal.returns-in-Free
 returns-in-Free c =
     let s = c in
-    free s.args.lot.now s.args.list.now s.args.number (sym c.in-Free.ensures
+    free s.args.lot.now s.args.list.now s.args.number (sym c.in-Free.ensures)

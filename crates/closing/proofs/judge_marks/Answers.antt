@@ -7,7 +7,7 @@ use Rattle.closing.proofs.judge_marks.Goals as goal
 pub missing_marks-m-requires : goal.missing_marks-m-requires
 missing_marks-m-requires c =
     let s = c in
-    limits s.args.lot.now s.requires c.streams_of.result.now (λ i. omega (arith, (c.shared-slice-known.given i).fits)) c.streams_of.ensures
+    limits s.args.lot.now s.requires c.streams_of.result.now (λ i. omega (arith, c.type_inv.lot i)) c.streams_of.ensures
 
 pub returns-then-m-eq0 : goal.returns-then-m-eq0
 returns-then-m-eq0 c =

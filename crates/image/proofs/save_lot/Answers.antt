@@ -22,5 +22,5 @@ returns c =
     let a = c in
     let w = c.save_body-end in
     let q = c.write_trailer in
-    lot_saved a.args.lot.now a.args.image.now w.new.image a.args.account w.result c.trailer_behind-t.result q.new.bytes a.requires.1 a.requires.0 (λ i. omega (arith, c.shared-slice-known.given i)) w.ensures
+    lot_saved a.args.lot.now a.args.image.now w.new.image a.args.account w.result c.trailer_behind-t.result q.new.bytes a.requires.1 a.requires.0 (λ i. omega (arith, c.type_inv.lot i)) w.ensures
     (omega (arith, w.ensures.short)) c.trailer_behind-t.ensures q.ensures
