@@ -13,7 +13,7 @@ use Rattle.verdicts.specs.Orderly.{Orderly}
 use Rattle.verdicts.specs.Verdicts.{Verdicts}
 use Rattle.install.specs.Pieces.{pieces_of, with_pieces, count_of, with_streams}
 use Rattle.install.proofs.ToModel.{pieces_are}
-use Rattle.epoch.specs.Closed.{pieces_in, listed_in}
+use Rattle.epoch.specs.Closed.{listed_in}
 
 numbers_append : (ps qs : List Piece) → pairs (ps ++ qs) ≡ pairs ps ++ pairs qs
 unfolding pairs

@@ -1,6 +1,6 @@
 -- The sections of a lot after a close, by the model.
 use Rattle.std.specs.Prelude.{ℕ, suc, ◌*◌, ◌<◌, ◌≤◌, ◌≡◌, true, List, ◌++◌, map, length, drop}
-use Rattle.model.specs.Lists.{upward, sum_below}
+use Rattle.model.specs.Lists.{upward}
 use Rattle.model.specs.Account.{Held}
 use Rattle.model.specs.Closing.{upto, Verdict, verdict, committed, pieces, survivors, apply, Piece, pairs}
 use Rattle.model.specs.Decoding.{mine}

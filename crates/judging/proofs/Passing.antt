@@ -12,10 +12,9 @@ use Rattle.wire.specs.Numbers.{number16}
 use Rattle.model.specs.Lists.{every}
 use Rattle.model.specs.Account.{Account}
 use Rattle.model.specs.Image.{Form, form, stream8, record8, held20, each, trailer24, body, bytes, image}
-use Rattle.model.specs.Accepting.{Accepted}
 use Rattle.model.specs.Section.{section_fits}
 use Rattle.lot.specs.View.{stream_fits, all_below}
-use Rattle.model.specs.Decoding.{counters_of, parse, last_of, decode_with, account, form_fits, accepts, load}
+use Rattle.model.specs.Decoding.{counters_of, parse, last_of, decode_with, account, form_fits, load}
 use Rattle.model.proofs.Tests.{no_way, nth}
 use Rattle.model.proofs.Decode.{trailer_last, last_of_law, length_bytes, length_form, with_trailer, past_streams, drop_each, record_long}
 use Rattle.model.proofs.Forms.{held_length}

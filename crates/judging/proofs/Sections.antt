@@ -1,5 +1,5 @@
 -- The sections of an image pass their tests exactly if their zero bytes are zero and what they show fits; then they are its bytes. Assumes nothing.
-use Prim.Native.Nat.{ℕ, zero, ◌+◌, ◌*◌, ◌-◌, ◌<◌}
+use Prim.Native.Nat.{ℕ, ◌+◌, ◌*◌, ◌-◌, ◌<◌}
 use mathlib.Core.Path.{◌≡◌, sym, ap, ◌∙◌}
 use mathlib.Core.Bool.{Bool, true, ◌&&◌}
 use mathlib.Core.List.{List, [], ◌++◌}
@@ -11,11 +11,11 @@ use borrow.Author.Tests.{eqb-true, eq-eqb}
 use Rattle.wire.specs.Numbers.{number16, number32}
 use Rattle.model.specs.Lists.{every, all}
 use Rattle.model.specs.Account.{account_fits}
-use Rattle.model.specs.Image.{Form, each, trailer24, body, bytes}
+use Rattle.model.specs.Image.{Form, trailer24, body, bytes}
 use Rattle.model.specs.Decoding.{counters_of, present_of, item_of, parse, records_fit, held_fits, form_fits}
 use Rattle.model.specs.Section.{plain, section_fits}
 use Rattle.model.specs.declared.Counters.{Counters}
-use Rattle.model.proofs.Tests.{and, and_l, and_r, nth}
+use Rattle.model.proofs.Tests.{and_l, and_r, nth}
 use Rattle.model.proofs.Buckets.{all_in, all_of}
 use Rattle.lookback.proofs.Places.{length_parse}
 use Rattle.lot.specs.View.{stream_fits, all_below}

@@ -1,6 +1,5 @@
 -- `close_held` leaves the lot holding the account with the epoch closed, and the list with its pieces. Assumes nothing.
 use mathlib.Core.Path.{◌∙◌}
-use native.Mathlib.Omega.{arith}
 use Rattle.lot.proofs.Lengths.{length_places}
 use Rattle.closing.proofs.Judging.{next_epoch}
 use Rattle.closing.proofs.ClosedLot.{held_most, closable, close_done}
@@ -18,7 +17,7 @@ install_in-applied-requires c =
     let k = n in
     let s = k in (
       s.requires.looked.size,
-      rw (n.snapshot-old.ensures, n.places_of.ensures) (closable s.args.lot.now s.requires.looked (λ i. omega (arith, c.type_inv.lot i)) s.args.list.now s.requires.room),
+      rw (n.snapshot-old.ensures, n.places_of.ensures) (closable s.args.lot.now s.requires.looked (λ i. search rules) s.args.list.now s.requires.room),
     )
 
 pub keep_in-left-requires : goal.keep_in-left-requires
@@ -31,7 +30,7 @@ pub closed_numbers-requires : goal.closed_numbers-requires
 closed_numbers-requires c =
     let k = c in
     let s = k in
-    next_epoch s.args.lot.now s.requires.looked (λ i. omega (arith, c.type_inv.lot i))
+    next_epoch s.args.lot.now s.requires.looked (λ i. search rules)
 
 pub returns : goal.returns
 returns c =

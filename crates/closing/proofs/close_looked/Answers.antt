@@ -1,6 +1,5 @@
 -- `close_looked` closes for the account that the lot holds, if it is the named one. Assumes nothing.
 use Rattle.closing.proofs.Answers.{another, due, refused, done}
-use borrow.Author.Rules.{rules}
 use Rattle.closing.proofs.close_looked.Goals as goal
 
 pub returns-then-account-number : goal.returns-then-account-number

@@ -1,7 +1,6 @@
 -- `close_lot` looks once, and answers what the lot means. Assumes nothing.
-use mathlib.Core.Path.{sym, ◌∙◌}
+use mathlib.Core.Path.{sym}
 use Rattle.closing.proofs.Answers.{damaged, free}
-use borrow.Author.Rules.{rules}
 use Rattle.closing.proofs.close_lot.Goals as goal
 
 pub returns-in-Damaged : goal.returns-in-Damaged

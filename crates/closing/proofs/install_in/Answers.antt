@@ -1,7 +1,6 @@
 -- `install_in` installs the pieces in the records of the lot, and the other sections stay. Assumes nothing.
 use native.Mathlib.Omega.{arith}
 use Rattle.closing.proofs.ClosedLot.{records_installed}
-use borrow.Author.Rules.{rules}
 use Rattle.closing.proofs.install_in.Goals as goal
 
 pub returns : goal.returns

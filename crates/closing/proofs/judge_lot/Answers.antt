@@ -1,6 +1,5 @@
 -- `judge_lot` answers 16, then 12. Assumes nothing.
 use Rattle.closing.proofs.Judging.{too_short, long_enough}
-use borrow.Author.Rules.{rules}
 use Rattle.closing.proofs.judge_lot.Goals as goal
 
 pub returns-then-room-lt-LEAST_LIST : goal.returns-then-room-lt-LEAST_LIST

@@ -1,7 +1,6 @@
 -- `judge_marks` answers 12. Assumes nothing.
 use Rattle.closing.proofs.Judging.{limits, all_there, some_missing}
 use native.Mathlib.Omega.{arith}
-use borrow.Author.Rules.{rules}
 use Rattle.closing.proofs.judge_marks.Goals as goal
 
 pub missing_marks-m-requires : goal.missing_marks-m-requires

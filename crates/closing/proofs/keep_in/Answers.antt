@@ -1,7 +1,6 @@
 -- `keep_in` writes what stays held into the places of the lot, and the other sections stay. Assumes nothing.
 use native.Mathlib.Omega.{arith}
 use Rattle.closing.proofs.ClosedLot.{places_kept}
-use borrow.Author.Rules.{rules}
 use Rattle.closing.proofs.keep_in.Goals as goal
 
 pub returns : goal.returns

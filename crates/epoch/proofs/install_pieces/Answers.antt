@@ -2,7 +2,6 @@
 use native.Mathlib.Omega.{arith}
 use native.Mathlib.Numerals.{add-one}
 use Rattle.epoch.proofs.Closing.{in_order_law, few, installed}
-use borrow.Author.Rules.{rules}
 use Rattle.epoch.proofs.install_pieces.Goals as goal
 
 pub verdicts-numbers-requires : goal.verdicts-numbers-requires

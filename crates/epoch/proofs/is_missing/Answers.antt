@@ -1,9 +1,7 @@
 -- `is_missing` compares the open epoch of a stream. Assumes nothing.
-use mathlib.Core.Path.{◌≡◌, refl, sym, ap, ◌∙◌}
 use native.Mathlib.Numerals.{add-one}
 use Rattle.epoch.specs.Missing.{missing_in}
 use Rattle.epoch.proofs.Bits.{epoch_is}
-use borrow.Author.Rules.{rules}
 use Rattle.epoch.proofs.is_missing.Goals as goal
 
 pub returns : goal.returns

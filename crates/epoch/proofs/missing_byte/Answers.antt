@@ -1,9 +1,6 @@
 -- `missing_byte` makes the byte of missing streams. Assumes nothing.
-use borrow.Author.Rules.{rules}
 use native.Mathlib.Omega.{arith}
-use mathlib.Core.Path.{◌≡◌, refl, sym, ap, ◌∙◌}
-use Prim.Native.Nat.{◌≤◌, ◌-◌, ◌^◌}
-use mathlib.Core.Logic.{⊎_elim}
+use mathlib.Core.Path.{refl, sym, ◌∙◌}
 use Rattle.model.specs.Lists.{bits_of}
 use Rattle.epoch.specs.Missing.{missing_in}
 use Rattle.epoch.proofs.Bits.{bits_hit, bits_miss, next_pow, small}
@@ -25,8 +22,8 @@ loop-i-preserved c = let l = c.loop-i in
     let p = missing_in a.streams.now a.closed in
     let k = c.is_missing in
     elim c.if-is_missing.branch [
-      then-is_missing w ↦ (omega arith, next_pow p l.i l.byte l.weight l.invariant.2 l.invariant.1, w.byte-is ∙ bits_hit p l.i l.byte l.weight l.invariant.2 l.invariant.1 (sym k.ensures ∙ w.if-is_missing.true))
-    | else-is_missing w ↦ (omega arith, next_pow p l.i l.byte l.weight l.invariant.2 l.invariant.1, w.byte-is ∙ bits_miss p l.i l.byte l.weight l.invariant.2 l.invariant.1 (sym k.ensures ∙ w.if-is_missing.false))
+      | then-is_missing w ↦ (omega arith, next_pow p l.i l.byte l.weight l.invariant.2 l.invariant.1, w.byte-is ∙ bits_hit p l.i l.byte l.weight l.invariant.2 l.invariant.1 (sym k.ensures ∙ w.if-is_missing.true))
+      | else-is_missing w ↦ (omega arith, next_pow p l.i l.byte l.weight l.invariant.2 l.invariant.1, w.byte-is ∙ bits_miss p l.i l.byte l.weight l.invariant.2 l.invariant.1 (sym k.ensures ∙ w.if-is_missing.false))
     ]
 
 pub overflow_cast-result : goal.overflow_cast-result

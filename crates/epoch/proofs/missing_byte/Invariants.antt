@@ -1,12 +1,8 @@
 -- `missing_byte` makes the byte of missing streams. Assumes nothing.
-use borrow.Author.Rules.{rules}
-use native.Mathlib.Omega.{arith}
-use mathlib.Core.Path.{◌≡◌, refl, sym, ap, ◌∙◌}
+use mathlib.Core.Path.{◌≡◌}
 use Prim.Native.Nat.{◌≤◌, ◌-◌, ◌^◌}
-use mathlib.Core.Logic.{⊎_elim}
 use Rattle.model.specs.Lists.{bits_of}
 use Rattle.epoch.specs.Missing.{missing_in}
-use Rattle.epoch.proofs.Bits.{bits_hit, bits_miss, next_pow, small}
 use Rattle.epoch.proofs.missing_byte.Given as goal
 
 abbrev pub invariant-loop-i : goal.invariant-loop-i

@@ -1,10 +1,8 @@
 -- `missing_marks` answers the byte of missing streams and its ones, as many as the streams without the mark. Assumes nothing.
-use native.Mathlib.Omega.{arith}
-use mathlib.Core.Path.{◌≡◌, refl, sym, ap, ◌∙◌}
+use mathlib.Core.Path.{ap, ◌∙◌}
 use lib.Count.{ones}
 use Rattle.epoch.specs.Missing.{missing_in}
-use Rattle.epoch.proofs.Bits.{ones_bits, count_le}
-use borrow.Author.Rules.{rules}
+use Rattle.epoch.proofs.Bits.{ones_bits}
 use Rattle.epoch.proofs.missing_marks.Goals as goal
 
 pub returns : goal.returns

@@ -2,10 +2,9 @@
 use Prim.Native.Nat.{◌+◌, ◌*◌, ◌-◌}
 use mathlib.Core.Path.{◌≡◌, ap}
 use native.Mathlib.Omega.{arith}
-use lib.ListN.{take, drop, length-drop}
+use lib.ListN.{take, drop}
 use Rattle.judging.proofs.Passing.{part_from_law}
 use Rattle.image.proofs.Putting.{image_loaded}
-use borrow.Author.Rules.{rules}
 use Rattle.image.proofs.load_image.Goals as goal
 
 pub returns : goal.returns

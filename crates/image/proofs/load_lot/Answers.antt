@@ -1,7 +1,6 @@
 -- `load_lot` leaves a lot that holds the account that the data show. Assumes nothing.
 use native.Mathlib.Omega.{arith}
 use Rattle.image.proofs.Loaded.{can_load, data_loaded}
-use borrow.Author.Rules.{rules}
 use Rattle.image.proofs.load_lot.Goals as goal
 
 pub overflow_sub-start : goal.overflow_sub-start

@@ -1,9 +1,7 @@
 -- `load_record` puts one record. Assumes nothing.
-use Prim.Native.Nat.{◌*◌}
 use native.Mathlib.Omega.{arith}
 use Rattle.judging.proofs.Records.{fragment_at_law, key_at}
 use Rattle.image.proofs.Putting.{record_put}
-use borrow.Author.Rules.{rules}
 use Rattle.image.proofs.load_record.Goals as goal
 
 pub set_record-requires : goal.set_record-requires

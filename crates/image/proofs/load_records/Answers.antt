@@ -1,14 +1,7 @@
 -- `load_records` puts the records of an image. The invariant: those from j on are put. Assumes nothing.
-use Prim.Native.Nat.{◌*◌, ◌-◌, ◌≤◌}
-use mathlib.Core.Path.{◌≡◌, refl}
+use mathlib.Core.Path.{refl}
 use native.Mathlib.Omega.{arith}
-use lib.ListN.{length, drop}
-use Rattle.model.specs.Decoding.{present_of, parse}
-use Rattle.lot.specs.Layout.{records_of}
-use Rattle.writes.specs.Sections.{WithRecords}
-use Rattle.image.specs.Loading.{with_all}
 use Rattle.image.proofs.Putting.{none_put, next_put, all_put}
-use borrow.Author.Rules.{rules}
 use Rattle.image.proofs.load_records.Goals as goal
 
 pub loop-j-init : goal.loop-j-init

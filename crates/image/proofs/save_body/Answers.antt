@@ -4,8 +4,6 @@ use mathlib.Core.Path.{ap, ◌∙◌}
 use native.Mathlib.Omega.{arith}
 use lib.ListN.{length, length-take}
 use Rattle.lot.proofs.Lengths.{length_streams, length_places, length_records}
-use Rattle.image.proofs.Saved.{body_saved}
-use borrow.Author.Rules.{rules}
 use Rattle.image.proofs.save_body.Goals as goal
 
 pub slice_bounds-save_sections-end : goal.slice_bounds-save_sections-end

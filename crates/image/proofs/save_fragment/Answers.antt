@@ -1,12 +1,8 @@
 -- `save_fragment` writes the present records of one fragment. The invariant: those of the keys below k are written. Assumes nothing.
-use Prim.Native.Nat.{◌+◌, ◌*◌, ◌-◌, ◌≤◌}
-use mathlib.Core.Path.{◌≡◌, refl}
+use mathlib.Core.Path.{refl}
 use native.Mathlib.Omega.{arith}
-use lib.ListN.{length}
 use Rattle.lot.specs.View.{record_at}
-use Rattle.image.specs.Saving.{Written, fragment_bytes}
 use Rattle.image.proofs.Writing.{no_key_yet, next_key, few_bytes}
-use borrow.Author.Rules.{rules}
 use Rattle.image.proofs.save_fragment.Goals as goal
 
 pub loop-k-init : goal.loop-k-init

@@ -1,12 +1,8 @@
 -- `save_fragment` writes the present records of one fragment. The invariant: those of the keys below k are written. Assumes nothing.
 use Prim.Native.Nat.{◌+◌, ◌*◌, ◌-◌, ◌≤◌}
-use mathlib.Core.Path.{◌≡◌, refl}
-use native.Mathlib.Omega.{arith}
+use mathlib.Core.Path.{◌≡◌}
 use lib.ListN.{length}
-use Rattle.lot.specs.View.{record_at}
 use Rattle.image.specs.Saving.{Written, fragment_bytes}
-use Rattle.image.proofs.Writing.{no_key_yet, next_key, few_bytes}
-use borrow.Author.Rules.{rules}
 use Rattle.image.proofs.save_fragment.Given as goal
 
 abbrev pub invariant-loop-k : goal.invariant-loop-k

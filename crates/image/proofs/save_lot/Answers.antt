@@ -1,7 +1,6 @@
 -- `save_lot` leaves the image of the account that the lot holds. Assumes nothing.
 use native.Mathlib.Omega.{arith}
 use Rattle.image.proofs.Saved.{few, room_before, lot_saved}
-use borrow.Author.Rules.{rules}
 use Rattle.image.proofs.save_lot.Goals as goal
 
 pub save_body-end-requires : goal.save_body-end-requires

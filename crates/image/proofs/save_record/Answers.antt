@@ -1,9 +1,7 @@
 -- `save_record` writes a record that is present. Assumes nothing.
-use mathlib.Core.Path.{sym, ◌∙◌}
 use native.Mathlib.Omega.{arith}
 use Rattle.lot.specs.View.{record_at}
-use Rattle.image.proofs.Writing.{record_part, shows_absent, write_none, always_read}
-use borrow.Author.Rules.{rules}
+use Rattle.image.proofs.Writing.{record_part, shows_absent, write_none}
 use Rattle.image.proofs.save_record.Goals as goal
 
 pub returns-in-Present : goal.returns-in-Present

@@ -1,11 +1,7 @@
 -- `save_records` writes the present records. The invariant: those of the fragments below i are written. Assumes nothing.
-use Prim.Native.Nat.{◌+◌, ◌*◌, ◌-◌, ◌≤◌}
-use mathlib.Core.Path.{◌≡◌, refl}
+use mathlib.Core.Path.{refl}
 use native.Mathlib.Omega.{arith}
-use lib.ListN.{length}
-use Rattle.image.specs.Saving.{Written, record_bytes}
 use Rattle.image.proofs.Writing.{no_fragment_yet, next_fragment}
-use borrow.Author.Rules.{rules}
 use Rattle.image.proofs.save_records.Goals as goal
 
 pub loop-i-init : goal.loop-i-init

@@ -1,11 +1,8 @@
 -- `save_records` writes the present records. The invariant: those of the fragments below i are written. Assumes nothing.
 use Prim.Native.Nat.{◌+◌, ◌*◌, ◌-◌, ◌≤◌}
-use mathlib.Core.Path.{◌≡◌, refl}
-use native.Mathlib.Omega.{arith}
+use mathlib.Core.Path.{◌≡◌}
 use lib.ListN.{length}
 use Rattle.image.specs.Saving.{Written, record_bytes}
-use Rattle.image.proofs.Writing.{no_fragment_yet, next_fragment}
-use borrow.Author.Rules.{rules}
 use Rattle.image.proofs.save_records.Given as goal
 
 abbrev pub invariant-loop-i : goal.invariant-loop-i

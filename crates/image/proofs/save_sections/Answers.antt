@@ -1,7 +1,6 @@
 -- `save_sections` writes the sections one after the other. Assumes nothing.
 use native.Mathlib.Omega.{arith}
 use Rattle.image.proofs.Saved.{sections_written}
-use borrow.Author.Rules.{rules}
 use Rattle.image.proofs.save_sections.Goals as goal
 
 pub returns : goal.returns

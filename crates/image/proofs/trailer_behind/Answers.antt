@@ -1,7 +1,6 @@
 -- `trailer_behind` answers the numbers of the trailer. Assumes nothing.
 use mathlib.Core.Path.{refl}
 use Rattle.image.specs.Saving.{trailer_behind}
-use borrow.Author.Rules.{rules}
 use Rattle.image.proofs.trailer_behind.Goals as goal
 
 pub returns : goal.returns

@@ -1,7 +1,6 @@
 -- `write_record` leaves the bytes of a record. Assumes nothing.
 use native.Mathlib.Omega.{arith}
 use Rattle.image.proofs.Writing.{record_written}
-use borrow.Author.Rules.{rules}
 use Rattle.image.proofs.write_record.Goals as goal
 
 pub returns : goal.returns

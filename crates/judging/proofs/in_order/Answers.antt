@@ -3,7 +3,6 @@ use mathlib.Core.Path.{sym}
 use native.Mathlib.Omega.{arith}
 use Rattle.judging.specs.Judging.{in_order}
 use Rattle.judging.proofs.Records.{order_at}
-use borrow.Author.Rules.{rules}
 use Rattle.judging.proofs.in_order.Goals as goal
 
 pub returns-then-i-eq0 : goal.returns-then-i-eq0

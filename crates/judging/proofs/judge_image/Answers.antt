@@ -1,9 +1,7 @@
 -- `judge_image` answers what the model's load does. Assumes nothing.
 use mathlib.Core.Path.{sym, ◌∙◌}
 use native.Mathlib.Omega.{arith}
-use borrow.Author.Tests.{not-true, not-false}
 use Rattle.judging.proofs.Passing.{too_short, not_signed, trailer_unfit, limits, sections_unfit, all_pass}
-use borrow.Author.Rules.{rules}
 use Rattle.judging.proofs.judge_image.Goals as goal
 
 pub returns-then-n-lt-LENGTH : goal.returns-then-n-lt-LENGTH

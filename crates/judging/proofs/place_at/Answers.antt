@@ -1,7 +1,6 @@
 -- `place_at` answers the place of a record. Assumes nothing.
 use mathlib.Core.Path.{◌∙◌}
 use Rattle.judging.proofs.Records.{place_at}
-use borrow.Author.Rules.{rules}
 use Rattle.judging.proofs.place_at.Goals as goal
 
 pub returns : goal.returns

@@ -1,6 +1,5 @@
 -- `record_fits` is the test of one record. Assumes nothing.
 use Rattle.judging.proofs.Records.{record_test}
-use borrow.Author.Rules.{rules}
 use Rattle.judging.proofs.record_fits.Goals as goal
 
 pub returns : goal.returns

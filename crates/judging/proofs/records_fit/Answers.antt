@@ -1,11 +1,8 @@
 -- `records_fit` tests each record below n. The invariant: the answer so far is that of the records below i. Assumes nothing.
-use Prim.Native.Nat.{◌≤◌, ◌-◌}
-use mathlib.Core.Path.{◌≡◌, refl}
+use mathlib.Core.Path.{refl}
 use native.Mathlib.Numerals.{add-one}
 use native.Mathlib.Omega.{arith}
 use Rattle.lot.specs.View.{all_below}
-use Rattle.judging.specs.Judging.{record_fits}
-use borrow.Author.Rules.{rules}
 use Rattle.judging.proofs.records_fit.Goals as goal
 
 pub loop-i-init : goal.loop-i-init

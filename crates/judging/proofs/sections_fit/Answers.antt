@@ -1,6 +1,5 @@
 -- `sections_fit` is the test of the three sections. Assumes nothing.
 use Rattle.judging.proofs.Passing.{sections_law}
-use borrow.Author.Rules.{rules}
 use Rattle.judging.proofs.sections_fit.Goals as goal
 
 pub returns : goal.returns

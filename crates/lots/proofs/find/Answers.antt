@@ -1,9 +1,7 @@
 -- `find` answers what the named lot and account are. Assumes nothing.
 use mathlib.Core.Path.{sym, ◌∙◌}
-use borrow.Author.Tests.{not-true, not-false}
 use Rattle.lots.proofs.Parts.{lot_inside}
 use Rattle.lots.proofs.Looks.{not_there, finds}
-use borrow.Author.Rules.{rules}
 use Rattle.lots.proofs.find.Goals as goal
 
 pub returns-then-not-lot_fits : goal.returns-then-not-lot_fits

@@ -4,7 +4,6 @@ use mathlib.Core.Path.{◌∙◌, ap}
 use native.Mathlib.Omega.{arith}
 use Rattle.lot.specs.View.{view_lot}
 use Rattle.writes.proofs.Fresh.{freed}
-use borrow.Author.Rules.{rules}
 use Rattle.lots.proofs.free_in.Goals as goal
 
 pub returns : goal.returns

@@ -1,7 +1,6 @@
 -- `look_in` answers what the lot means. Assumes nothing.
 use mathlib.Core.Path.{◌∙◌}
 use Rattle.lots.proofs.Looks.{looks}
-use borrow.Author.Rules.{rules}
 use Rattle.lots.proofs.look_in.Goals as goal
 
 pub returns : goal.returns

@@ -1,6 +1,5 @@
 -- `lot_fits` decides refusal 1. Assumes nothing.
 use Rattle.lots.specs.Memory.{lot_fits}
-use borrow.Author.Rules.{rules}
 use Rattle.lots.proofs.lot_fits.Goals as goal
 
 pub returns : goal.returns

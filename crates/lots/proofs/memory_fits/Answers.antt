@@ -2,7 +2,6 @@
 use mathlib.Core.Bool.{and-true, and_assoc}
 use Rattle.model.specs.Lists.{every}
 use Rattle.lots.specs.Memory.{memory_fits}
-use borrow.Author.Rules.{rules}
 use Rattle.lots.proofs.memory_fits.Goals as goal
 
 pub returns : goal.returns

@@ -1,7 +1,6 @@
 -- `open_in` opens an account in one lot. Assumes nothing.
 use native.Mathlib.Omega.{arith}
 use Rattle.lots.proofs.Parts.{lent}
-use borrow.Author.Rules.{rules}
 use Rattle.lots.proofs.open_in.Goals as goal
 
 pub returns : goal.returns

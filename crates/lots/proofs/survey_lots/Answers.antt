@@ -1,7 +1,5 @@
 -- `survey_lots` answers what all lots are, for a call that opens an account. The invariant: it has what the first i lots are. Assumes nothing.
-use borrow.Author.Rules.{rules}
-use Prim.Native.Nat.{◌≤◌, ◌-◌}
-use mathlib.Core.Path.{◌≡◌, refl}
+use mathlib.Core.Path.{refl}
 use native.Mathlib.Omega.{arith}
 use native.Mathlib.Numerals.{add-one}
 use Rattle.lots.specs.Memory.{some_below, lowest_below}

@@ -1,12 +1,7 @@
 -- `survey_lots` answers what all lots are, for a call that opens an account. The invariant: it has what the first i lots are. Assumes nothing.
-use borrow.Author.Rules.{rules}
 use Prim.Native.Nat.{◌≤◌, ◌-◌}
-use mathlib.Core.Path.{◌≡◌, refl}
-use native.Mathlib.Omega.{arith}
-use native.Mathlib.Numerals.{add-one}
-use Rattle.lots.specs.Memory.{some_below, lowest_below}
+use mathlib.Core.Path.{◌≡◌}
 use Rattle.lots.specs.Looks.{survey_of}
-use Rattle.lots.proofs.Looks.{survey_more}
 use Rattle.lots.proofs.survey_lots.Given as goal
 
 abbrev pub invariant-loop-i : goal.invariant-loop-i

@@ -1,8 +1,6 @@
 -- `overview_answer` judges an overview: 1, 16. Assumes nothing.
 use mathlib.Core.Path.{sym, ◌∙◌}
-use borrow.Author.Tests.{not-true, not-false}
 use Rattle.overview.proofs.Answers.{overview_nowhere, overview_short, overview_done}
-use borrow.Author.Rules.{rules}
 use Rattle.overview.proofs.overview_answer.Goals as goal
 
 pub returns-then-not-memory_fits : goal.returns-then-not-memory_fits

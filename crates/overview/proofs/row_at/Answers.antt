@@ -1,9 +1,7 @@
 -- `row_at` answers the row of one lot, if there is such a lot. Assumes nothing.
 use mathlib.Core.Path.{sym, ◌∙◌}
-use borrow.Author.Tests.{not-true, not-false}
 use Rattle.overview.specs.Overview.{row_at}
 use Rattle.lots.proofs.Parts.{lot_inside}
-use borrow.Author.Rules.{rules}
 use Rattle.overview.proofs.row_at.Goals as goal
 
 pub returns-then-not-lot_fits : goal.returns-then-not-lot_fits

@@ -1,6 +1,5 @@
 -- `deliver_held` delivers to the account that the lot holds, if it is the named one. Assumes nothing.
 use Rattle.taking.proofs.Answers.{another, refused, done}
-use borrow.Author.Rules.{rules}
 use Rattle.taking.proofs.deliver_held.Goals as goal
 
 pub returns-then-account-number : goal.returns-then-account-number

@@ -1,7 +1,6 @@
 -- `deliver_lot` looks once, and answers what the lot means. Assumes nothing.
-use mathlib.Core.Path.{sym, ◌∙◌}
+use mathlib.Core.Path.{sym}
 use Rattle.taking.proofs.Answers.{damaged, free}
-use borrow.Author.Rules.{rules}
 use Rattle.taking.proofs.deliver_lot.Goals as goal
 
 pub returns-in-Damaged : goal.returns-in-Damaged

@@ -1,7 +1,6 @@
 -- `hold_in` puts the entry among the places, and the other sections stay. Assumes nothing.
 use native.Mathlib.Omega.{arith}
 use Rattle.taking.proofs.Writing.{held_in_law}
-use borrow.Author.Rules.{rules}
 use Rattle.taking.proofs.hold_in.Goals as goal
 
 pub returns : goal.returns

@@ -1,9 +1,8 @@
 -- `judge_due` answers 9, 10 and 11. Assumes nothing.
 use mathlib.Core.Path.{sym, ◌∙◌}
-use borrow.Author.Tests.{eq-eqb, ne_eqb, not-true, not-false}
+use borrow.Author.Tests.{eq-eqb, ne_eqb}
 use Rattle.taking.specs.Delivering.{judge_due}
 use Rattle.taking.proofs.Judging.{out_of_turn, taken, full}
-use borrow.Author.Rules.{rules}
 use Rattle.taking.proofs.judge_due.Goals as goal
 
 pub returns-then-e-open : goal.returns-then-e-open

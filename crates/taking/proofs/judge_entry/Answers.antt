@@ -1,8 +1,6 @@
 -- `judge_entry` answers what the account that the lot holds judges of the entry. Assumes nothing.
 use mathlib.Core.Path.{sym, ◌∙◌}
-use borrow.Author.Tests.{not-true, not-false}
 use Rattle.taking.proofs.Judging.{unfit, outside, limits, judged}
-use borrow.Author.Rules.{rules}
 use Rattle.taking.proofs.judge_entry.Goals as goal
 
 pub returns-then-not-fits : goal.returns-then-not-fits

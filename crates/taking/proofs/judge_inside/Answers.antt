@@ -1,7 +1,5 @@
 -- `judge_inside` answers 7 to 11. Assumes nothing.
-use mathlib.Core.Path.{sym, ◌∙◌}
 use Rattle.taking.proofs.Judging.{seen, gap, due}
-use borrow.Author.Rules.{rules}
 use Rattle.taking.proofs.judge_inside.Goals as goal
 
 pub returns-in-Seen : goal.returns-in-Seen

@@ -1,6 +1,5 @@
 -- `judge_lot` answers what the account that the lot holds judges of the bytes. Assumes nothing.
 use Rattle.taking.proofs.Judging.{wrong_length, of_entry}
-use borrow.Author.Rules.{rules}
 use Rattle.taking.proofs.judge_lot.Goals as goal
 
 pub returns-then-bytes-ne-LENGTH : goal.returns-then-bytes-ne-LENGTH

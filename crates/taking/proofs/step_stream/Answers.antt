@@ -1,7 +1,6 @@
 -- `step_stream` steps the counters of one stream, and the other sections stay. Assumes nothing.
 use native.Mathlib.Omega.{arith}
 use Rattle.taking.proofs.Writing.{streams_room, stream_stepped}
-use borrow.Author.Rules.{rules}
 use Rattle.taking.proofs.step_stream.Goals as goal
 
 pub read_counters-c-requires : goal.read_counters-c-requires
