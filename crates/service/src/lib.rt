@@ -1,4 +1,4 @@
-// The functions for C, as include/standby.h declares them: each calls the standby, and answers one number that packs the
+// The functions for C, as include/standby.h declares them (`service_c` exports them): each calls the standby, and answers one number that packs the
 // numbers of its answer. A lent slice is a pointer and a length. Lists cross as bytes (specs/Crossing.antt).
 // It stands on `standby` and `overview`, whose contracts each function keeps.
 #![tactic(auto)]
@@ -81,41 +81,25 @@ fn of_saved(saved: Saved) -> u64
 
 // ---- the calls whose buffers are plain bytes
 
-#[unsafe(no_mangle)]
-pub extern "C" fn standby_start(memory: &mut [u8], lots: u32) -> u64
+pub fn standby_start(memory: &mut [u8], lots: u32) -> u64
     ensures { Answered outcome_numbers (Started memory.old memory.new lots) result }
 {
     of_outcome(standby::start(memory, lots))
 }
 
-#[unsafe(no_mangle)]
-pub extern "C" fn standby_open(
-    memory: &mut [u8],
-    lots: u32,
-    account: u32,
-    fragments: u32,
-    keys: u32,
-) -> u64
+pub fn standby_open(memory: &mut [u8], lots: u32, account: u32, fragments: u32, keys: u32) -> u64
     ensures { Answered opened_numbers (AccountOpened memory.old memory.new lots account fragments keys) result }
 {
     of_opened(standby::open_account(memory, lots, account, fragments, keys))
 }
 
-#[unsafe(no_mangle)]
-pub extern "C" fn standby_deliver(
-    memory: &mut [u8],
-    lots: u32,
-    lot: u32,
-    account: u32,
-    entry: &[u8],
-) -> u64
+pub fn standby_deliver(memory: &mut [u8], lots: u32, lot: u32, account: u32, entry: &[u8]) -> u64
     ensures { Answered outcome_numbers (Delivered memory.old memory.new lots lot account entry.now) result }
 {
     of_outcome(standby::deliver(memory, lots, lot, account, entry))
 }
 
-#[unsafe(no_mangle)]
-pub extern "C" fn standby_read(
+pub fn standby_read(
     memory: &[u8],
     lots: u32,
     lot: u32,
@@ -128,28 +112,19 @@ pub extern "C" fn standby_read(
     of_found(standby::read_record(memory, lots, lot, account, fragment, key))
 }
 
-#[unsafe(no_mangle)]
-pub extern "C" fn standby_save(
-    memory: &[u8],
-    lots: u32,
-    lot: u32,
-    account: u32,
-    image: &mut [u8],
-) -> u64
+pub fn standby_save(memory: &[u8], lots: u32, lot: u32, account: u32, image: &mut [u8]) -> u64
     ensures { Answered saved_numbers (AccountSaved memory.now lots lot account image.old image.new) result }
 {
     of_saved(standby::save_account(memory, lots, lot, account, image))
 }
 
-#[unsafe(no_mangle)]
-pub extern "C" fn standby_load(memory: &mut [u8], lots: u32, data: &[u8]) -> u64
+pub fn standby_load(memory: &mut [u8], lots: u32, data: &[u8]) -> u64
     ensures { Answered opened_numbers (AccountLoaded memory.old memory.new lots «data».now) result }
 {
     of_opened(standby::load_account(memory, lots, data))
 }
 
-#[unsafe(no_mangle)]
-pub extern "C" fn standby_drop(memory: &mut [u8], lots: u32, lot: u32, account: u32) -> u64
+pub fn standby_drop(memory: &mut [u8], lots: u32, lot: u32, account: u32) -> u64
     ensures { Answered outcome_numbers (Dropped memory.old memory.new lots lot account) result }
 {
     of_outcome(standby::drop_account(memory, lots, lot, account))
@@ -208,14 +183,7 @@ fn close_list(
     closed
 }
 
-#[unsafe(no_mangle)]
-pub extern "C" fn standby_close(
-    memory: &mut [u8],
-    lots: u32,
-    lot: u32,
-    account: u32,
-    list: &mut [u8],
-) -> u64
+pub fn standby_close(memory: &mut [u8], lots: u32, lot: u32, account: u32, list: &mut [u8]) -> u64
     ensures { Answered closed_numbers (ListClosed memory.old memory.new lots lot account list.old list.new) result }
 {
     let mut numbers = [0u32; 512];
@@ -246,8 +214,7 @@ fn put_rows(memory: &[u8], lots: u32, bytes: &mut [u8], n: usize)
     }
 }
 
-#[unsafe(no_mangle)]
-pub extern "C" fn standby_overview(memory: &[u8], lots: u32, rows: &mut [u8]) -> u64
+pub fn standby_overview(memory: &[u8], lots: u32, rows: &mut [u8]) -> u64
     ensures { Answered outcome_numbers (RowsFilled memory.now lots rows.old rows.new) result }
 {
     let lent = rows.len() / 16;

@@ -9,7 +9,7 @@ use lib.Dec.{ltb}
 use lib.ListN.{length}
 use borrow.Author.Tests.{leb-true, ltb-true}
 use Rattle.std.specs.Prelude.{if◌then◌else◌}
-use Rattle.model.specs.Account.{Account, account_fits, MOST_FRAGMENTS, MOST_KEYS}
+use Rattle.model.specs.Account.{account_fits, MOST_FRAGMENTS, MOST_KEYS}
 use Rattle.model.specs.declared.Refusal.{Refusal}
 use Rattle.model.specs.declared.Refusal.TheVariants.{NoSuchLot, Damaged, NotThisAccount, OutsideAccount, AlreadyOpen, NoFreeLot, UnfitAccount}
 use Rattle.model.specs.declared.Outcome.TheVariants.{Done, Refused}

@@ -1,5 +1,5 @@
 -- What each call owes: its answer, the named account afterwards, and that every other byte stays. A call is a relation between the lent memory before it (m) and after it (m').
-use Rattle.std.specs.Prelude.{ℕ, ◌<◌, ◌≡◌, not, ◌&&◌, List, ltb, eqb, length, drop, if◌then◌else◌}
+use Rattle.std.specs.Prelude.{ℕ, ◌<◌, ◌≡◌, not, ◌&&◌, List, ltb, eqb, length, if◌then◌else◌}
 use Rattle.model.specs.Entry.{entry_of}
 use Rattle.model.specs.Account.{Account, account_fits, fresh, Named, refused, found}
 use Rattle.model.specs.Taking.{deliver_to, taken}
