@@ -1,0 +1,12 @@
+-- The records and the held count of the account that is found. Assumes nothing.
+use native.Mathlib.Omega.{arith}
+use mathlib.Core.Path.{sym, ◌∙◌}
+use Rattle.replaying.proofs.Records.{none_printed, found_limits, account_printed}
+use borrow.Author.Rules.{rules}
+use Rattle.replaying.proofs.put_account.Goals as goal
+
+pub put_records-end-requires : goal.put_records-end-requires
+put_records-end-requires c = found_limits _ _ (sym c.find.ensures ∙ c.a.given.1)
+
+pub returns-in-Found : goal.returns-in-Found
+returns-in-Found c = account_printed _ _ (sym c.in-Found.ensures) c.put_records-end.ensures.0 c.put_held.ensures.0 (omega (arith, c.put_held.ensures.1, c.put_records-end.ensures.1))

@@ -1,0 +1,16 @@
+-- The reads are printed fragment by fragment. Assumes nothing.
+use Prim.Native.Nat.{◌*◌, ◌-◌, ◌≤◌}
+use mathlib.Core.Path.{◌≡◌}
+use native.Mathlib.Omega.{arith}
+use Rattle.lines.specs.Text.{Wrote}
+use Rattle.replaying.proofs.Printing.{wrote_start, wrote_upward}
+use Rattle.replaying.specs.Replaying.{records_text}
+use Rattle.replaying.proofs.put_records.Goals as goal
+
+pub loop-fragment-init : goal.loop-fragment-init
+unfolding records_text
+loop-fragment-init c = (omega arith, omega arith, wrote_start _ _ _)
+
+pub loop-fragment-preserved : goal.loop-fragment-preserved
+unfolding records_text
+loop-fragment-preserved c = (omega arith, omega (arith, c.put_fragment-end.ensures.1), wrote_upward _ _ c.loop-fragment.invariant.2 c.put_fragment-end.ensures.0)
