@@ -26,4 +26,4 @@ returns c =
     let a = s.args in
     let q = c.room_in-room in
     let g = c in
-    list_closed a.memory.now k.new.memory a.lots a.lot a.account a.list.now a.numbers.now k.new.list (q.result - 0) k.result s.requires (omega (arith, q.ensures)) k.auto.list k.ensures _ (λ i. omega (arith, (g.slice-known2.given i).fits)) (rw c.written_by.ensures at c.put_numbers.ensures)
+    list_closed a.memory.now k.new.memory a.lots a.lot a.account a.list.now a.numbers.now k.new.list (q.result - 0) k.result s.requires (omega (arith, q.ensures)) k.auto.list k.ensures _ (λ i. search rules) (rw c.written_by.ensures at c.put_numbers.ensures)

@@ -1,14 +1,10 @@
 -- `put_numbers` writes the first n numbers at the front of the bytes. The invariant: the first i stand there. Assumes nothing.
 use Prim.Native.Nat.{◌*◌, ◌≤◌, ◌-◌}
-use mathlib.Core.Path.{◌≡◌, refl, ◌∙◌}
-use native.Mathlib.Omega.{arith}
+use mathlib.Core.Path.{◌≡◌}
 use lib.ListN.{length, take}
-use borrow.Author.Rules.{rules}
 use Rattle.wire.specs.Numbers.{bytes32}
-use Rattle.wire.specs.Laws.{length_put32}
 use Rattle.model.specs.Image.{each}
 use Rattle.image.specs.Saving.{Written}
-use Rattle.service.proofs.Bytes.{none_yet, number_more}
 use Rattle.service.proofs.put_numbers.Given as goal
 
 abbrev pub invariant-loop-i : goal.invariant-loop-i

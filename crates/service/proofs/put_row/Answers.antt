@@ -1,7 +1,6 @@
 -- `put_row` writes a row. Assumes nothing.
 use Prim.Native.Nat.{◌*◌}
 use Rattle.service.proofs.Bytes.{row_written}
-use borrow.Author.Rules.{rules}
 use Rattle.service.proofs.put_row.Goals as goal
 
 pub returns : goal.returns

@@ -1,15 +1,11 @@
 -- `put_rows` writes the rows of the first n lots at the front of the bytes. The invariant: the first i stand there. Assumes nothing.
 use Prim.Native.Nat.{◌*◌, ◌≤◌, ◌-◌}
-use mathlib.Core.Path.{◌≡◌, refl, ◌∙◌}
-use native.Mathlib.Omega.{arith}
+use mathlib.Core.Path.{◌≡◌}
 use lib.ListN.{length}
-use borrow.Author.Rules.{rules}
-use Rattle.model.specs.Lists.{upward}
 use Rattle.model.specs.Image.{each}
 use Rattle.image.specs.Saving.{Written}
 use Rattle.service.specs.Crossing.{row16}
 use Rattle.service.specs.Writing.{rows_at}
-use Rattle.service.proofs.Bytes.{none_yet, row_more}
 use Rattle.service.proofs.put_rows.Given as goal
 
 abbrev pub invariant-loop-i : goal.invariant-loop-i

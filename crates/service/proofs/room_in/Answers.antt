@@ -1,7 +1,6 @@
 -- `room_in` answers how many numbers are lent on. Assumes nothing.
 use borrow.Author.Tests.{lt-ltb, le-ltb}
 use Rattle.service.specs.Writing.{room_in}
-use borrow.Author.Rules.{rules}
 use Rattle.service.proofs.room_in.Goals as goal
 
 pub returns-then-bytes : goal.returns-then-bytes

@@ -21,6 +21,6 @@ returns c =
     let o = c.overview_answer in
     record {
       answer = o.result;
-      owed = rw o.ensures (rows_filled a.memory.now a.lots a.rows.now (λ i. omega (arith, (d.slice-known.given i).fits)) d.rows_due.ensures c.put_rows.ensures);
+      owed = rw o.ensures (rows_filled a.memory.now a.lots a.rows.now (λ i. search rules) d.rows_due.ensures c.put_rows.ensures);
       packs = c.of_outcome.ensures;
     }
