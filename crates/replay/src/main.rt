@@ -4,7 +4,7 @@
 
 ghost use Rattle.std.specs.Prelude.{◌≤◌, length, IfOk};
 
-use std::io::{self, Read, Write};
+use std::io::{self, ErrorKind, Read, Write};
 use std::rt::{Stdin, Stdout};
 
 fn print(mut output: Stdout, text: &[u8], length: usize) -> io::Result<()> {
@@ -14,17 +14,22 @@ fn print(mut output: Stdout, text: &[u8], length: usize) -> io::Result<()> {
     Ok(())
 }
 
-// Reads until the buffer is full or the input ends, and answers how many bytes it read.
+// Reads until the buffer is full or the input ends, and answers how many bytes it read. A read that a signal interrupts is made
+// again. A proved loop has to end, so this one has an end that no run reaches.
 fn read_full(mut input: Stdin, buffer: &mut [u8]) -> io::Result<usize>
     ensures { IfOk result (λ read. read ≤ length buffer.new) }
 {
     let mut read = 0;
-    while read < buffer.len() {
-        let more = input.read(&mut buffer[read..])?;
-        if more == 0 {
+    for _ in 0..u64::MAX {
+        if read == buffer.len() {
             break;
         }
-        read += more;
+        match input.read(&mut buffer[read..]) {
+            Ok(0) => break,
+            Ok(more) => read += more,
+            Err(e) if e.kind() == ErrorKind::Interrupted => {}
+            Err(e) => return Err(e),
+        }
     }
     Ok(read)
 }

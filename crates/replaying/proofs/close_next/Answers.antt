@@ -5,10 +5,10 @@ use borrow.Author.Rules.{rules}
 use Rattle.replaying.proofs.close_next.Goals as goal
 
 pub put_pieces-requires : goal.put_pieces-requires
-put_pieces-requires c = (count_fits _ c.close_epoch.ensures refl c.count.given.1 c.close_epoch.auto.list, c.put_epoch-end.ensures.1)
+put_pieces-requires c = (count_fits _ c.in-Pieces.ensures refl refl c.close_epoch.auto.list, c.put_epoch-end.ensures.upper_bound)
 
 pub returns-in-NotClosed : goal.returns-in-NotClosed
-returns-in-NotClosed c = not_closed _ c.close_epoch.ensures refl c.enum_told.given.1
+returns-in-NotClosed c = not_closed _ c.in-NotClosed.ensures refl refl
 
 pub returns-in-Pieces : goal.returns-in-Pieces
-returns-in-Pieces c = epoch_printed _ c.close_epoch.ensures refl c.count.given.1 c.row_at-row.ensures c.put_epoch-end.ensures.0 c.put_pieces.ensures.0 c.put_pieces.ensures.1
+returns-in-Pieces c = epoch_printed _ c.in-Pieces.ensures refl refl c.row_at-row.ensures c.put_epoch-end.ensures.wrote c.put_pieces.ensures.wrote c.put_pieces.ensures.upper_bound

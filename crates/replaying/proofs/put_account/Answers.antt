@@ -6,7 +6,7 @@ use borrow.Author.Rules.{rules}
 use Rattle.replaying.proofs.put_account.Goals as goal
 
 pub put_records-end-requires : goal.put_records-end-requires
-put_records-end-requires c = found_limits _ _ (sym c.find.ensures ∙ c.a.given.1)
+put_records-end-requires c = found_limits _ _ (sym c.in-Found.ensures)
 
 pub returns-in-Found : goal.returns-in-Found
-returns-in-Found c = account_printed _ _ (sym c.in-Found.ensures) c.put_records-end.ensures.0 c.put_held.ensures.0 (omega (arith, c.put_held.ensures.1, c.put_records-end.ensures.1))
+returns-in-Found c = account_printed _ _ (sym c.in-Found.ensures) c.put_records-end.ensures.wrote c.put_held.ensures.wrote (omega (arith, c.put_held.ensures.upper_bound, c.put_records-end.ensures.upper_bound))

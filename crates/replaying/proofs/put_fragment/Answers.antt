@@ -13,4 +13,4 @@ loop-key-init c = (omega arith, omega arith, wrote_start _ _ _)
 
 pub loop-key-preserved : goal.loop-key-preserved
 unfolding fragment_text
-loop-key-preserved c = (omega arith, omega (arith, c.put_found-end.ensures.1), wrote_upward _ _ c.loop-key.invariant.2 (rw c.read_record-found.ensures at c.put_found-end.ensures.0))
+loop-key-preserved c = (omega arith, omega (arith, c.put_found-end.ensures.upper_bound), wrote_upward _ _ c.loop-key.invariant.2 (rw c.read_record-found.ensures at c.put_found-end.ensures.wrote))

@@ -13,4 +13,4 @@ loop-i-init c = (omega arith, omega arith, wrote_start _ _ _)
 
 pub loop-i-preserved : goal.loop-i-preserved
 unfolding pairs_text
-loop-i-preserved c = (omega arith, omega (arith, c.put_piece-end.ensures.1), wrote_upward _ _ c.loop-i.invariant.2 (rw (c.wide.ensures, c.wide-in-loop-i.ensures) at c.put_piece-end.ensures.0))
+loop-i-preserved c = (omega arith, omega (arith, c.put_piece-end.ensures.upper_bound), wrote_upward _ _ c.loop-i.invariant.2 (rw (c.wide.ensures, c.wide-in-loop-i.ensures) at c.put_piece-end.ensures.wrote))

@@ -13,4 +13,4 @@ loop-fragment-init c = (omega arith, omega arith, wrote_start _ _ _)
 
 pub loop-fragment-preserved : goal.loop-fragment-preserved
 unfolding records_text
-loop-fragment-preserved c = (omega arith, omega (arith, c.put_fragment-end.ensures.1), wrote_upward _ _ c.loop-fragment.invariant.2 c.put_fragment-end.ensures.0)
+loop-fragment-preserved c = (omega arith, omega (arith, c.put_fragment-end.ensures.upper_bound), wrote_upward _ _ c.loop-fragment.invariant.2 c.put_fragment-end.ensures.wrote)
