@@ -1,5 +1,5 @@
 // Closing an epoch over the sections of a lot: the marks that are missing, and the pieces installed.
-// It stands on `verdicts` and `install`, and on `survivors` for what stays held; it takes its snapshot with the kit's `bytes`.
+// It stands on `verdicts` and `install`, and on `survivors` for what stays held; it takes its snapshot with `wire`.
 #![tactic(auto)]
 
 ghost use Rattle.std.specs.Prelude.{◌≡◌, ◌+◌, ◌*◌, ◌≤◌, ◌<◌, length};

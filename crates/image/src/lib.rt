@@ -1,5 +1,5 @@
 // The saved image of one lot: saving a lot, and loading one from data that were judged.
-// It stands on `wire`, `model`, `lot`, `writes`, `trailer`, `judging` and the kit's `bytes`.
+// It stands on `wire`, `model`, `lot`, `writes`, `trailer` and `judging`.
 #![tactic(auto)]
 
 ghost use Rattle.std.specs.Prelude.{◌≡◌, ◌∷◌, ◌+◌, ◌*◌, ◌≤◌, ◌<◌, length};

@@ -1,6 +1,6 @@
 // Putting an entry into a held section: 256 places of 20 bytes, sorted by stream, of which the first n hold entries.
 // The entry goes to the end of its stream's entries, and the places after them move up by one.
-// It stands on `wire`, on `model`, whose items the places are, and on the kit's `bytes`.
+// It stands on `wire`, and on `model`, whose items the places are.
 #![tactic(auto)]
 
 ghost use Rattle.std.specs.Prelude.{◌≡◌, ◌+◌, ◌*◌, ◌≤◌, ◌<◌, length};

@@ -1,5 +1,5 @@
 // The held section written anew when an epoch is closed: what survives of a snapshot of it, each place moved at most once.
-// It stands on `places`, `held` and `verdicts`, whose numbers say what becomes of each place, and on the kit's `bytes`.
+// It stands on `places`, `held` and `verdicts`, whose numbers say what becomes of each place, and on `wire`.
 #![tactic(auto)]
 
 ghost use Rattle.std.specs.Prelude.{◌≡◌, ◌+◌, ◌*◌, ◌≤◌, ◌<◌, length, set};

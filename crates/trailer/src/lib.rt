@@ -1,5 +1,5 @@
 // The trailer of a saved image: its 24 bytes read, judged by themselves, and written.
-// It stands on `wire`, `model`, `lot` for the limits of an account, and the kit's `bytes`.
+// It stands on `wire`, `model`, and `lot` for the limits of an account.
 #![tactic(auto)]
 
 ghost use Rattle.std.specs.Prelude.{◌≡◌, ◌≤◌, ◌++◌, length, drop};

@@ -1,4 +1,4 @@
-// Numbers in bytes, the lowest byte first: reading and writing them in a lent slice.
+// Numbers in bytes, the lowest byte first: reading and writing them in a lent slice; and copying bytes over others.
 #![tactic(auto)]
 
 ghost use Rattle.std.specs.Prelude.{◌≡◌, ◌+◌, ◌*◌, ◌<◌, ◌≤◌, ◌++◌, length, drop};
