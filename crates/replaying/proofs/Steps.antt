@@ -13,7 +13,6 @@ use Rattle.model.specs.Taking.{judge, taken}
 use Rattle.model.specs.Closing.{judge_close, close, listed, judge_room, close_judged}
 use Rattle.model.specs.declared.Outcome.{Outcome}
 use Rattle.model.specs.declared.Outcome.TheVariants.{Done, Refused}
-use Rattle.model.specs.declared.Closed.{Closed}
 use Rattle.lot.specs.View.{holds}
 use Rattle.lots.specs.Memory.{lot_fits, view_of, OnlyLot, named}
 use Rattle.lots.proofs.Named.{holder}

@@ -1,7 +1,6 @@
 -- An epoch is closed where it can, and then printed with its pieces. Assumes nothing.
 use mathlib.Core.Path.{refl}
 use Rattle.replaying.proofs.Closes.{not_closed, count_fits, epoch_printed}
-use borrow.Author.Rules.{rules}
 use Rattle.replaying.proofs.close_next.Goals as goal
 
 pub put_pieces-requires : goal.put_pieces-requires

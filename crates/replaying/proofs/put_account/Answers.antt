@@ -1,8 +1,7 @@
 -- The records and the held count of the account that is found. Assumes nothing.
 use native.Mathlib.Omega.{arith}
-use mathlib.Core.Path.{sym, ◌∙◌}
-use Rattle.replaying.proofs.Records.{none_printed, found_limits, account_printed}
-use borrow.Author.Rules.{rules}
+use mathlib.Core.Path.{sym}
+use Rattle.replaying.proofs.Records.{found_limits, account_printed}
 use Rattle.replaying.proofs.put_account.Goals as goal
 
 pub put_records-end-requires : goal.put_records-end-requires

@@ -1,8 +1,5 @@
 -- The reads of a fragment are printed key by key. Assumes nothing.
-use Prim.Native.Nat.{◌+◌, ◌*◌, ◌-◌, ◌≤◌}
-use mathlib.Core.Path.{◌≡◌}
 use native.Mathlib.Omega.{arith}
-use Rattle.lines.specs.Text.{Wrote}
 use Rattle.replaying.proofs.Printing.{wrote_start, wrote_upward}
 use Rattle.replaying.specs.Replaying.{fragment_text}
 use Rattle.replaying.proofs.put_fragment.Goals as goal

@@ -1,8 +1,5 @@
 -- The pairs of the list are printed one after the other: the first i of them stand there. Assumes nothing.
-use Prim.Native.Nat.{◌+◌, ◌*◌, ◌-◌, ◌≤◌}
-use mathlib.Core.Path.{◌≡◌}
 use native.Mathlib.Omega.{arith}
-use Rattle.lines.specs.Text.{Wrote}
 use Rattle.replaying.proofs.Printing.{wrote_start, wrote_upward}
 use Rattle.replaying.specs.Replaying.{pairs_text}
 use Rattle.replaying.proofs.put_pieces.Goals as goal

@@ -1,8 +1,5 @@
 -- The reads are printed fragment by fragment. Assumes nothing.
-use Prim.Native.Nat.{◌*◌, ◌-◌, ◌≤◌}
-use mathlib.Core.Path.{◌≡◌}
 use native.Mathlib.Omega.{arith}
-use Rattle.lines.specs.Text.{Wrote}
 use Rattle.replaying.proofs.Printing.{wrote_start, wrote_upward}
 use Rattle.replaying.specs.Replaying.{records_text}
 use Rattle.replaying.proofs.put_records.Goals as goal

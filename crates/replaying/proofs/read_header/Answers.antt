@@ -1,8 +1,6 @@
 -- The header of four bytes, or of fewer. Assumes nothing.
-use native.Mathlib.Omega.{arith}
 use Rattle.replaying.specs.Replaying.{header_of}
 use borrow.Author.Tests.{lt-ltb, le-ltb}
-use borrow.Author.Rules.{rules}
 use Rattle.replaying.proofs.read_header.Goals as goal
 
 pub returns-then-bytes-lt4 : goal.returns-then-bytes-lt4
