@@ -10,6 +10,7 @@ pub mod Lots
 pub mod Exist
 pub mod Wrong
 pub mod Starred
+pub mod StarredAnswered
 -- demands 2 and 3: one account over a run
 pub mod Answered
 pub mod Closes
