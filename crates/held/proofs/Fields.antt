@@ -12,7 +12,7 @@ use Rattle.model.specs.Lists.{every}
 use Rattle.model.specs.Account.{fresh_counters}
 use Rattle.model.specs.Decoding.{item_of, counters_of, counters_at, parse}
 use Rattle.model.specs.Section.{item_at, plain_place}
-use Rattle.lookback.proofs.Places.{number16_drop, number32_drop, length_parse, get_d_parse}
+use Rattle.lookback.proofs.Places.{number16_drop, number32_drop, length_parse, get_or_parse}
 use Rattle.held.specs.Place.{may_follow, in_order}
 
 module _ (h : List ℕ) (i : ℕ) where
@@ -44,7 +44,7 @@ order_is h (suc i) l = let z : suc i - 1 ≡ i = omega arith in rw z
 module _ (l : List ℕ) (f i : ℕ) where
   pub epoch_within : i < f → (counters_at (parse f 8 counters_of l) i).epoch ≡ number32 l (i * 8 + 4)
   unfolding counters_of
-  epoch_within h = ap (λ s. s.epoch) (get_d_parse 8 counters_of fresh_counters f l i h) ∙ number32_drop (i * 8) l 4
+  epoch_within h = ap (λ s. s.epoch) (get_or_parse 8 counters_of fresh_counters f l i h) ∙ number32_drop (i * 8) l 4
 
   pub epoch_outside : f ≤ i → (counters_at (parse f 8 counters_of l) i).epoch ≡ 1
   epoch_outside h = ap (λ s. s.epoch) (get_or-eq_default (parse f 8 counters_of l) fresh_counters {n = i} (omega (arith, length_parse 8 counters_of f l)))

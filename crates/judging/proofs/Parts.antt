@@ -18,7 +18,7 @@ use Rattle.model.specs.declared.Counters.{Counters}
 use Rattle.model.proofs.Tests.{nth, and}
 use Rattle.model.proofs.Buckets.{singles}
 use Rattle.model.proofs.Decode.{stream_long, record_long, item_long}
-use Rattle.lookback.proofs.Places.{get_d_parse, parse_more, number16_drop}
+use Rattle.lookback.proofs.Places.{get_or_parse, parse_more, number16_drop}
 
 -- every element is a byte, as a slice's is
 abbrev pub Bytes : List ℕ → Type 0
@@ -161,7 +161,7 @@ module _ (n : ℕ) (l : List ℕ) (b : Bytes l) where
   records_sound h w = parts_sound 8 record8 present_of n l (λ i u. record_cells (drop (i * 8) l) (bytes_drop (i * 8) l b) (omega (arith, length-drop (i * 8) l)) (get_or-drop (i * 8) l 1 0 ∙ w i u))
 
   pub held_sound : n * 20 ≤ length l → plain n l ≡ true → each held20 (parse n 20 item_of l) ≡ take (n * 20) l
-  held_sound h w = parts_sound 20 held20 item_of n l (λ i u. held_cells (drop (i * 20) l) (bytes_drop (i * 20) l b) (omega (arith, length-drop (i * 20) l)) (sym (get_d_parse 20 plain_place true n l i u) ∙ nth _ w i))
+  held_sound h w = parts_sound 20 held20 item_of n l (λ i u. held_cells (drop (i * 20) l) (bytes_drop (i * 20) l b) (omega (arith, length-drop (i * 20) l)) (sym (get_or_parse 20 plain_place true n l i u) ∙ nth _ w i))
 
 module _ (rest : List ℕ) where
   pub streams_plain : (ss : List Counters) (i : ℕ) → i < length ss → number16 (each stream8 ss ++ rest) (i * 8 + 2) ≡ 0

@@ -1,5 +1,5 @@
 // The lines that the program of docs/RULES.md prints, written as text into a lent buffer.
-// specs/Lines.antt has each line, and specs/Text.antt what it means that a text is written. It stands on `model`.
+// specs/Lines.antt has each line, and specs/Text.antt what it means that a text is written.
 #![tactic(auto)]
 
 ghost use Rattle.std.specs.Prelude.{◌≡◌, [], ◌∷◌, ◌+◌, ◌≤◌, length};

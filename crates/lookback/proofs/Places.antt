@@ -59,13 +59,13 @@ module _ {X : Type 0} (size : ℕ) (dec : List ℕ → X) where
   length_parse zero l = refl
   length_parse (suc n) l = ap suc (length_parse n (drop size l))
 
-  pub get_d_parse : (d : X) (n : ℕ) (l : List ℕ) (i : ℕ) → i < n → get_or (parse n size dec l) i d ≡ dec (drop (i * size) l)
+  pub get_or_parse : (d : X) (n : ℕ) (l : List ℕ) (i : ℕ) → i < n → get_or (parse n size dec l) i d ≡ dec (drop (i * size) l)
   unfolding parse
-  get_d_parse d zero l i h = absurd (omega arith)
-  get_d_parse d (suc n) l zero h = let z : 0 * size ≡ 0 = omega arith in rw z
-  get_d_parse d (suc n) l (suc i) h =
+  get_or_parse d zero l i h = absurd (omega arith)
+  get_or_parse d (suc n) l zero h = let z : 0 * size ≡ 0 = omega arith in rw z
+  get_or_parse d (suc n) l (suc i) h =
       let z : size + i * size ≡ suc i * size = omega (arith, suc-mul i size) in
-      get_d_parse d n (drop size l) i (omega arith) ∙ rw (drop-drop (i * size) size l, z)
+      get_or_parse d n (drop size l) i (omega arith) ∙ rw (drop-drop (i * size) size l, z)
 
 -- ---- the stage of a transaction is what its last entry makes
 

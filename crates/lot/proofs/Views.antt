@@ -21,7 +21,7 @@ use Rattle.model.proofs.Buckets.{length_upward}
 use Rattle.model.proofs.Shows.{item, by_streams}
 use Rattle.model.proofs.Image.{same_true}
 use Rattle.model.proofs.ByStream.{held_fits_law, held_sorted, streams_fit}
-use Rattle.lookback.proofs.Places.{length_parse, get_d_parse, number32_drop}
+use Rattle.lookback.proofs.Places.{length_parse, get_or_parse, number32_drop}
 use Rattle.model.specs.Section.{items, plain, section_fits}
 use Rattle.lot.specs.Layout.{FREE, OPEN, head_of, streams_of, places_of, records_of}
 use Rattle.lot.specs.View.{tag_of, fragments_of, keys_of, count_of, closed_of, record_at, fragment_at, account_of, head_fits, stream_fits, all_below, fits, free, damaged, holds, view, view_lot}
@@ -58,7 +58,7 @@ module _ (p : ℕ → Bool) where
 
 module _ (s : List ℕ) (f : ℕ) where
   pub streams_are : (i : ℕ) → i < f → counters_at (parse f 8 counters_of s) i ≡ counters_of (drop (i * 8) s)
-  streams_are = get_d_parse 8 counters_of fresh_counters f s
+  streams_are = get_or_parse 8 counters_of fresh_counters f s
 
   pub streams_many : length (parse f 8 counters_of s) ≡ f
   streams_many = length_parse 8 counters_of f s

@@ -67,11 +67,11 @@ module _ {X : Type 0} (g : ℕ → X) where
   length_singles zero n = refl
   length_singles (suc c) n = ap suc (length_singles c (suc n))
 
-  pub get_d_singles : (d : X) (c n i : ℕ) → i < c → get_or (singles c n) i d ≡ g (n + i)
+  pub get_or_singles : (d : X) (c n i : ℕ) → i < c → get_or (singles c n) i d ≡ g (n + i)
   unfolding upward
-  get_d_singles d zero n i h = absurd (omega arith)
-  get_d_singles d (suc c) n zero h = let z : n + 0 ≡ n = omega arith in rw z
-  get_d_singles d (suc c) n (suc i) h = let z : n + suc i ≡ suc n + i = omega arith in rw z (get_d_singles d c (suc n) i (omega arith))
+  get_or_singles d zero n i h = absurd (omega arith)
+  get_or_singles d (suc c) n zero h = let z : n + 0 ≡ n = omega arith in rw z
+  get_or_singles d (suc c) n (suc i) h = let z : n + suc i ≡ suc n + i = omega arith in rw z (get_or_singles d c (suc n) i (omega arith))
 
   pub all_in : (p : X → Bool) (c n : ℕ) → all p (singles c n) ≡ true → (i : ℕ) → n ≤ i → i < n + c → p (g i) ≡ true
   unfolding upward all
@@ -88,10 +88,10 @@ module _ {X : Type 0} (g : ℕ → X) where
   all_of p (suc c) n f = rw (f n (omega arith) (omega arith), all_of p c (suc n) (λ i l u. f i (omega arith) (omega arith)))
 
 -- a list is its elements, one after the other
-pub singles_get_d : {X : Type 0} (d : X) (xs : List X) → singles (λ i. get_or xs i d) (length xs) 0 ≡ xs
-singles_get_d d xs =
+pub singles_get_or : {X : Type 0} (d : X) (xs : List X) → singles (λ i. get_or xs i d) (length xs) 0 ≡ xs
+singles_get_or d xs =
     ext_get_or d (singles (λ i. get_or xs i d) (length xs) 0) xs (length_singles (λ i. get_or xs i d) (length xs) 0)
-    (λ i h. let z : 0 + i ≡ i = omega arith in get_d_singles (λ i. get_or xs i d) d (length xs) 0 i (omega (arith, length_singles (λ i. get_or xs i d) (length xs) 0)) ∙ rw z)
+    (λ i h. let z : 0 + i ≡ i = omega arith in get_or_singles (λ i. get_or xs i d) d (length xs) 0 i (omega (arith, length_singles (λ i. get_or xs i d) (length xs) 0)) ∙ rw z)
 
 -- ---- a list that rises by a number
 

@@ -15,7 +15,7 @@ use Rattle.model.specs.Image.{Present, Item, Form, shown, form}
 use Rattle.model.specs.Decoding.{mine, find, counters_at, account, item_fits, held_fits, records_fit, form_fits}
 use Rattle.model.specs.declared.Counters.{Counters}
 use Rattle.model.proofs.Tests.{nth, all_append, all_snoc, if_ap, filter_append}
-use Rattle.model.proofs.Buckets.{length_upward, keeps_none, keeps_one, singles, length_singles, get_d_singles, all_in, all_of}
+use Rattle.model.proofs.Buckets.{length_upward, keeps_none, keeps_one, singles, length_singles, get_or_singles, all_in, all_of}
 use Rattle.model.proofs.Shows.{item, both, form_account}
 
 -- ---- held entries
@@ -130,7 +130,7 @@ module _ (a : Account) where
 
   counters_back : (i : ℕ) → i < f → counters_at (form a).streams i ≡ (a.at i).counters
   unfolding form
-  counters_back i h = let z : 0 + i ≡ i = omega arith in get_d_singles (λ i. (a.at i).counters) fresh_counters f 0 i h ∙ rw z
+  counters_back i h = let z : 0 + i ≡ i = omega arith in get_or_singles (λ i. (a.at i).counters) fresh_counters f 0 i h ∙ rw z
 
   held_all : held_fits a.keys a.closed (form a).streams [] (form a).held ≡ all (λ j. stream_fits f a.keys j a.closed (counters_at (form a).streams j).epoch [] (a.at j).held) (singles (λ j. j) f 0)
   unfolding form all mine

@@ -16,7 +16,7 @@ use Rattle.model.specs.Image.{Present, Item, Form, shown, form}
 use Rattle.model.specs.Decoding.{mine, find, account, item_fits, held_fits, place, records_fit, form_fits}
 use Rattle.model.specs.declared.Counters.{Counters}
 use Rattle.model.proofs.Tests.{and_l, and_r, nth, all_snoc, filter_filter}
-use Rattle.model.proofs.Buckets.{upward_cong, singles_get_d, Rising, at, buckets}
+use Rattle.model.proofs.Buckets.{upward_cong, singles_get_or, Rising, at, buckets}
 
 -- ---- held entries
 
@@ -141,4 +141,4 @@ form_account x w =
     let f = length x.streams in
     let r = records_back f x.keys (leb-true x.keys 128 (nth _ (n 0) 5)) x.records (n 3) in
     let h = by_streams f x.held (held_rising x.keys x.closed x.streams 0 [] x.held (λ e a. omega arith) (n 4)) in
-    λ i. record { number = x.number; keys = x.keys; closed = x.closed; streams = singles_get_d fresh_counters x.streams i; records = r i; held = h i }
+    λ i. record { number = x.number; keys = x.keys; closed = x.closed; streams = singles_get_or fresh_counters x.streams i; records = r i; held = h i }

@@ -15,11 +15,11 @@ use Rattle.model.specs.Image.{form, stream8, held20, each}
 use Rattle.model.specs.Decoding.{counters_of, item_of, parse, mine, counters_at, account}
 use Rattle.model.specs.Section.{items}
 use Rattle.model.proofs.Tests.{nth}
-use Rattle.model.proofs.Buckets.{singles, length_singles, get_d_singles}
+use Rattle.model.proofs.Buckets.{singles, length_singles, get_or_singles}
 use Rattle.model.proofs.ByStream.{Sorted, held_sorted}
 use Rattle.model.proofs.Decode.{stream_long, stream_back, item_long, item_back, length_each, parse_each}
 use Rattle.model.proofs.Forms.{streams_length, held_length, form_fits_law, account_form}
-use Rattle.lookback.proofs.Places.{get_d_parse, number32_drop}
+use Rattle.lookback.proofs.Places.{get_or_parse, number32_drop}
 use Rattle.lot.specs.Layout.{SIZE, FREE}
 use Rattle.lot.specs.Head.{numbers_with, head_bytes}
 use Rattle.lot.specs.View.{Lot, free, record_at, holds, view_lot}
@@ -100,7 +100,7 @@ module _ (a : Account) where
   records_shown : (i k : ℕ) → i < 8 → k < 128 → record_at records i k ≡ (a.at i).records k
   records_shown i k hi hk =
       let p = i * 128 + k in
-      sym (record_at_law records i k) ∙ sym (get_d_parse 5 record_of absent 1024 records p (omega arith)) ∙ rw records_parsed (get_d_singles cell absent 1024 0 p (omega arith)) ∙ cell_is i k hk
+      sym (record_at_law records i k) ∙ sym (get_or_parse 5 record_of absent 1024 records p (omega arith)) ∙ rw records_parsed (get_or_singles cell absent 1024 0 p (omega arith)) ∙ cell_is i k hk
 
   -- ---- streams and places
 

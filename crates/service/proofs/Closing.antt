@@ -119,9 +119,9 @@ module _ (m : List ℕ) (lots lot number : ℕ) where
 
 -- ---- the list of bytes b, closed with as many of the numbers as there is room for: `left` is what the close left of these
 
-module _ (m m' : List ℕ) (lots lot number : ℕ) (b numbers left : List ℕ) (room : ℕ) (r : Closed) (all : length numbers ≡ LEAST_LIST) (is-room : room ≡ room_in (length b)) (kept : length left ≡ length (take room numbers)) (w : EpochClosed m m' lots lot number (take room numbers) left r) where
+module _ (m m' : List ℕ) (lots lot number : ℕ) (b numbers left : List ℕ) (room : ℕ) (r : Closed) (all : length numbers ≡ LEAST_LIST) (is_room : room ≡ room_in (length b)) (kept : length left ≡ length (take room numbers)) (w : EpochClosed m m' lots lot number (take room numbers) left r) where
   lent_long : length (take room numbers) ≡ room_in (length b)
-  lent_long = length-take-le room numbers (omega (arith, room_most (length b))) ∙ is-room
+  lent_long = length-take-le room numbers (omega (arith, room_most (length b))) ∙ is_room
 
   written_most : written_by r ≤ length left
   written_most = omega (arith, written_inside m lots lot number r kept w)

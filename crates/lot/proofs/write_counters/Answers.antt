@@ -4,4 +4,4 @@ use Rattle.lot.proofs.write_counters.Goals as goal
 
 pub returns : goal.returns
 unfolding with_counters
-returns c = cc
+returns c = rw (c.put32.ensures, c.put16-2.ensures, c.put16.ensures)
