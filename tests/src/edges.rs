@@ -85,6 +85,7 @@ pub fn all() {
     buffers();
     longest();
     acceptance();
+    every_change();
 }
 
 fn worked_case() {
@@ -316,6 +317,19 @@ fn stages() {
                 }
             }
         }
+    }
+    // the P is flagged: its coordinator's CC has been closed
+    for deed in [put(1, 2), Deed::Delete { key: 1 }, prepare(1), CC, CP, A] {
+        let mut a = Alone::open(7, 2, 4);
+        same(a.of(0, 5, prepare(1)), 0);
+        same(a.of(1, 5, CC), 0);
+        same(a.mark(0), 0);
+        same(a.mark(1), 0);
+        a.close();
+        same(a.of(0, 5, deed), if deed.kind() >= 5 { 0 } else { 10 });
+        same(a.mark(0), 0);
+        same(a.mark(1), 0);
+        a.close();
     }
 }
 
@@ -658,5 +672,73 @@ fn acceptance() {
     }
     for length in 0..24 {
         want(pair.load(pair.frame, &image[image.len() - length..]), 17);
+    }
+}
+
+/// Some images: every single-byte change, every truncation at either end, the image behind longer data of every length to 64.
+fn every_change() {
+    let mut flagged = Account::fresh(7, 2, 4);
+    flagged.closed = 1;
+    for s in &mut flagged.streams {
+        s.epoch = 2;
+        s.next = 3;
+    }
+    flagged.streams[0].records = [(0, 10)].into();
+    flagged.streams[1].records = [(2, 30)].into();
+    flagged.streams[1].held = vec![Held { transaction: 1, deed: Deed::Prepare { coordinator: 0, flagged: true }, epoch: 1 }];
+    let rich = crate::trips::rich(3, 25);
+    let mut pair = Pair::started(2, 10);
+    let frame = pair.frame;
+    let mut try_one = |data: &[u8]| {
+        let answer = pair.load(frame, data);
+        if answer.number == 0 {
+            let number = pair.account(answer.first as usize).unwrap().number;
+            want(pair.drop(frame, answer.first, number.into()), 0);
+        }
+        answer.number
+    };
+    for a in [Account::fresh(7, 1, 4), flagged, rich] {
+        let whole = image::image(&a);
+        for at in 0..whole.len() {
+            let mut data = whole.clone();
+            for value in 0..=255 {
+                data[at] = value;
+                try_one(&data);
+            }
+        }
+        for cut in 1..=whole.len() {
+            same(try_one(&whole[cut..]), 17);
+            try_one(&whole[..whole.len() - cut]);
+        }
+        for more in 0..=64 {
+            let mut data = vec![0x45; more];
+            data.extend(&whole);
+            same(try_one(&data), 0);
+        }
+    }
+    // the account's numbers at 0 and past their limits, the image whole otherwise; counts beyond the data, length and counts agreeing
+    let trailer = |number: u16, f: u8, k: u16, records: u16, held: u16| {
+        let mut data = Vec::new();
+        for _ in 0..f {
+            data.extend([0, 0, 0, 0, 1, 0, 0, 0]);
+        }
+        let length = 8 * u32::from(f) + 8 * u32::from(records) + 20 * u32::from(held) + 24;
+        data.extend(number.to_le_bytes());
+        data.extend([f, 0]);
+        data.extend(k.to_le_bytes());
+        data.extend(records.to_le_bytes());
+        data.extend(held.to_le_bytes());
+        data.extend([0; 6]);
+        data.extend(length.to_le_bytes());
+        data.extend(image::LAST_FOUR);
+        data
+    };
+    for (number, f, k, records, held, answer) in [
+        (1, 1, 1, 0, 0, 0), (65_535, 8, 128, 0, 0, 0), (0, 1, 1, 0, 0, 17), (1, 0, 1, 0, 0, 17), (1, 9, 1, 0, 0, 17),
+        (1, 255, 1, 0, 0, 17), (1, 1, 0, 0, 0, 17), (1, 1, 129, 0, 0, 17), (1, 1, 65_535, 0, 0, 17),
+        (1, 1, 1, 1, 0, 17), (1, 1, 1, 0, 1, 17), (1, 1, 1, 65_535, 0, 17), (1, 1, 1, 0, 65_535, 17),
+        (1, 1, 1, 0, 256, 17), (1, 8, 128, 1_024, 256, 17), (1, 8, 128, 65_535, 65_535, 17),
+    ] {
+        same(try_one(&trailer(number, f, k, records, held)), answer);
     }
 }

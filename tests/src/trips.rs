@@ -523,7 +523,7 @@ pub fn rich(seed: u64, entries: usize) -> Account {
     a
 }
 
-/// One image: every length, every byte changed, longer data before it, and many structured changes.
+/// One image: lengths and bytes changed, `every` apart, longer data before it, and many structured changes. (`edges` tries each of some images.)
 pub fn images(seed: u64, every: usize) {
     let mut rng = Random::new(seed);
     let entries = rng.pick(&[0, 20, 60, 400]);

@@ -3,98 +3,87 @@
 #![tactic(auto)]
 
 ghost use Rattle.std.specs.Prelude.{◌≡◌};
-ghost use Rattle.model.specs.Answers.{refusal_numbers};
+ghost use Rattle.model.specs.declared.Numbers.{Numbers};
+ghost use Rattle.model.specs.Answers.{numbers, refusal_numbers, outcome_numbers, counted_numbers, found_numbers};
 
 use model::{Numbers, Refusal};
 
+fn numbers(number: u32, first: u32, second: u32) -> Numbers
+    ensures { result ≡ numbers number first second }
+{
+    Numbers {
+        number,
+        first,
+        second,
+    }
+}
+
+// By a match, since `as` gives no number where a case has fields.
 pub fn refusal_numbers(refusal: Refusal) -> Numbers
     ensures { result ≡ refusal_numbers refusal }
 {
     match refusal {
-        Refusal::NoSuchLot => Numbers {
-            number: 1,
-            first: 0,
-            second: 0,
-        },
-        Refusal::Damaged => Numbers {
-            number: 2,
-            first: 0,
-            second: 0,
-        },
-        Refusal::NotThisAccount => Numbers {
-            number: 3,
-            first: 0,
-            second: 0,
-        },
-        Refusal::WrongLength => Numbers {
-            number: 4,
-            first: 0,
-            second: 0,
-        },
-        Refusal::Unfit => Numbers {
-            number: 5,
-            first: 0,
-            second: 0,
-        },
-        Refusal::OutsideAccount => Numbers {
-            number: 6,
-            first: 0,
-            second: 0,
-        },
-        Refusal::Seen => Numbers {
-            number: 7,
-            first: 0,
-            second: 0,
-        },
-        Refusal::Gap => Numbers {
-            number: 8,
-            first: 0,
-            second: 0,
-        },
-        Refusal::WrongMark => Numbers {
-            number: 9,
-            first: 0,
-            second: 0,
-        },
-        Refusal::OutOfTurn => Numbers {
-            number: 10,
-            first: 0,
-            second: 0,
-        },
-        Refusal::Full => Numbers {
-            number: 11,
-            first: 0,
-            second: 0,
-        },
-        Refusal::MarkMissing { streams, how_many } => Numbers {
-            number: 12,
-            first: streams as u32,
-            second: how_many as u32,
-        },
-        Refusal::AlreadyOpen => Numbers {
-            number: 13,
-            first: 0,
-            second: 0,
-        },
-        Refusal::NoFreeLot => Numbers {
-            number: 14,
-            first: 0,
-            second: 0,
-        },
-        Refusal::UnfitAccount => Numbers {
-            number: 15,
-            first: 0,
-            second: 0,
-        },
-        Refusal::TooShort => Numbers {
-            number: 16,
-            first: 0,
-            second: 0,
-        },
-        Refusal::NotAccepted => Numbers {
-            number: 17,
-            first: 0,
-            second: 0,
-        },
+        Refusal::NoSuchLot => numbers(1, 0, 0),
+        Refusal::Damaged => numbers(2, 0, 0),
+        Refusal::NotThisAccount => numbers(3, 0, 0),
+        Refusal::WrongLength => numbers(4, 0, 0),
+        Refusal::Unfit => numbers(5, 0, 0),
+        Refusal::OutsideAccount => numbers(6, 0, 0),
+        Refusal::Seen => numbers(7, 0, 0),
+        Refusal::Gap => numbers(8, 0, 0),
+        Refusal::WrongMark => numbers(9, 0, 0),
+        Refusal::OutOfTurn => numbers(10, 0, 0),
+        Refusal::Full => numbers(11, 0, 0),
+        Refusal::MarkMissing { streams, how_many } => numbers(12, streams as u32, how_many as u32),
+        Refusal::AlreadyOpen => numbers(13, 0, 0),
+        Refusal::NoFreeLot => numbers(14, 0, 0),
+        Refusal::UnfitAccount => numbers(15, 0, 0),
+        Refusal::TooShort => numbers(16, 0, 0),
+        Refusal::NotAccepted => numbers(17, 0, 0),
+    }
+}
+
+// What a call answers, as numbers.
+pub trait Answer {
+    ghost numbers_of: { Self → Numbers };
+
+    fn numbers(self) -> Numbers
+        ensures { result ≡ numbers_of self };
+}
+
+// Start, deliver, drop and the overview.
+impl Answer for Result<(), Refusal> {
+    ghost numbers_of = { outcome_numbers };
+
+    fn numbers(self) -> Numbers {
+        match self {
+            Ok(()) => numbers(0, 0, 0),
+            Err(refusal) => refusal_numbers(refusal),
+        }
+    }
+}
+
+// Open and load: the lot; close: the count of pieces; save: the image's length.
+impl Answer for Result<u32, Refusal> {
+    ghost numbers_of = { counted_numbers };
+
+    fn numbers(self) -> Numbers {
+        match self {
+            Ok(n) => numbers(0, n, 0),
+            Err(refusal) => refusal_numbers(refusal),
+        }
+    }
+}
+
+// Read.
+impl Answer for Result<Option<u32>, Refusal> {
+    ghost numbers_of = { found_numbers };
+
+    fn numbers(self) -> Numbers {
+        match self {
+            Ok(Some(value)) => numbers(0, 1, value),
+            Ok(None) => numbers(0, 0, 0),
+            Err(refusal) => refusal_numbers(refusal),
+        }
     }
 }

@@ -6,49 +6,45 @@ use mathlib.Core.List.{List}
 use lib.Dec.{ltb}
 use lib.ListN.{length}
 use borrow.Author.Tests.{ltb-false}
-use Rattle.std.specs.Prelude.{if◌then◌else◌}
+use Rattle.std.specs.Prelude.{if◌then◌else◌, Ok, Err}
 use Rattle.model.specs.Closing.{judge_close, judge_room}
 use Rattle.model.specs.Account as model
 use Rattle.model.specs.declared.Refusal.{Refusal}
 use Rattle.model.specs.declared.Refusal.TheVariants as refusal
-use Rattle.model.specs.declared.Outcome.TheVariants.{Done, Refused}
-use Rattle.model.specs.declared.Closed.TheVariants.{Pieces, NotClosed}
 use Rattle.model.proofs.Tests.{no_way}
-use Rattle.lot.specs.Look.{look_of, Looked}
+use Rattle.lot.specs.Layout.{SIZE}
+use Rattle.lot.specs.Look.{look_of, finding}
 use Rattle.lot.specs.declared.Account as numbers
-use Rattle.lot.specs.declared.Look.TheVariants.{Free, Damaged}
-use Rattle.lot.proofs.Looked.{LooksHeld, looked_held, named_damaged, named_free, named_another, named_own}
+use Rattle.lot.proofs.Looked.{LooksHeld, finding_refused, finding_found, found_held, found_named}
 use Rattle.closing.specs.Closing.{Judged, Due, CloseDone, LotClosed}
 
 -- a judgement that refuses nothing
-room_done : (a : model.Account) (room : ℕ) → judge_room a room ≡ Done → (512 ≤ room) × (judge_close a ≡ Done)
+room_done : (a : model.Account) (room : ℕ) → judge_room a room ≡ Ok tt → (512 ≤ room) × (judge_close a ≡ Ok tt)
 unfolding judge_room
 room_done a room = go (ltb room 512) refl
   where
-    go : (b : Bool) → ltb room 512 ≡ b → (if b then Refused refusal.TooShort else judge_close a) ≡ Done → (512 ≤ room) × (judge_close a ≡ Done)
+    go : (b : Bool) → ltb room 512 ≡ b → (if b then Err refusal.TooShort else judge_close a) ≡ Ok tt → (512 ≤ room) × (judge_close a ≡ Ok tt)
     go true q e = no_way cc
     go false q e = (ltb-false room 512 q, e)
 
 module _ (l list : List ℕ) (number : ℕ) where
-  pub damaged : look_of l ≡ Damaged → LotClosed l l number list list (NotClosed refusal.Damaged)
-  damaged e = record { answer = rw (named_damaged l number e); left = (refl, refl) }
+  pub not_found : {r : Refusal} → finding (look_of l) number ≡ Err r → LotClosed l l number list list (Err r)
+  not_found e = record { answer = rw (finding_refused l number e); left = (refl, refl) }
 
-  pub free : look_of l ≡ Free → LotClosed l l number list list (NotClosed refusal.NotThisAccount)
-  free e = record { answer = rw (named_free l number e); left = (refl, refl) }
+  module _ {n : numbers.Account} (e : finding (look_of l) number ≡ Ok n) where
+    abbrev h : LooksHeld l n
+    h = found_held l number e
 
-  module _ {n : numbers.Account} (k : Looked l n) where
-    h : LooksHeld l n
-    h = looked_held l k.seen
+    pub due : length l ≡ SIZE → Judged l (length list) (Ok tt) → Due l n list
+    due size j =
+        record {
+          looked = record { size = size; seen = (finding_found l number e).0 };
+          room = (room_done h.account (length list) (sym (j h.account h.holds_it))).0;
+          marked = λ a v. sym (room_done a (length list) (sym (j a v))).1;
+        }
 
-    pub another : (n.number ≡ number → ⊥) → LotClosed l l number list list (NotClosed refusal.NotThisAccount)
-    another ne = record { answer = rw (named_another l number h ne); left = (refl, refl) }
+    pub refused : {why : Refusal} → Judged l (length list) (Err why) → LotClosed l l number list list (Err why)
+    refused j = record { answer = rw (found_named l number e, ← j h.account h.holds_it); left = (refl, refl) }
 
-    pub due : Judged l (length list) Done → Due l n list
-    due j = record { looked = k; room = (room_done h.account (length list) (sym (j h.account h.holds_it))).0; marked = λ a v. sym (room_done a (length list) (sym (j a v))).1 }
-
-    module _ (same : n.number ≡ number) where
-      pub refused : {why : Refusal} → Judged l (length list) (Refused why) → LotClosed l l number list list (NotClosed why)
-      refused j = record { answer = rw (named_own l number h same, ← j h.account h.holds_it); left = (refl, refl) }
-
-      pub done : (l' list' : List ℕ) {p : ℕ} → Judged l (length list) Done → CloseDone l l' list list' p → LotClosed l l' number list list' (Pieces p)
-      done l' list' j t = record { answer = rw (named_own l number h same, ← j h.account h.holds_it, (t h.account h.holds_it).counted); left = t }
+    pub done : (l' list' : List ℕ) {p : ℕ} → Judged l (length list) (Ok tt) → CloseDone l l' list list' p → LotClosed l l' number list list' (Ok p)
+    done l' list' j t = record { answer = rw (found_named l number e, ← j h.account h.holds_it, (t h.account h.holds_it).counted); left = t }

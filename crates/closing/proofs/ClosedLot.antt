@@ -1,6 +1,7 @@
 -- An epoch that is to be closed: its sections may be closed, and then the lot holds the account with the epoch closed. Assumes nothing.
 use Prim.Native.Nat.{ℕ, suc, ◌+◌, ◌*◌, ◌<◌, ◌≤◌}
 use mathlib.Core.Path.{◌≡◌, refl, sym, ◌∙◌, fun_ext}
+use Rattle.std.specs.Prelude.{Option}
 use mathlib.Core.List.{List, [], ◌∷◌, ◌++◌, map}
 use native.Mathlib.Omega.{arith}
 use native.Mathlib.Decide.{dec_lt}
@@ -28,6 +29,7 @@ use Rattle.lot.proofs.Looked.{looked_held, known}
 use Rattle.writes.specs.Sections.{WithHead}
 use Rattle.writes.proofs.Parts.{places_lent, records_lent}
 use Rattle.writes.proofs.Changes.{sections_hold, streams_same}
+use Rattle.verdicts.specs.declared.Verdict.{Verdict}
 use Rattle.survivors.specs.Left.{Left}
 use Rattle.epoch.specs.Closed.{Fits, Closable, listed_in, Installed}
 use Rattle.epoch.proofs.Closing.{stays_held}
@@ -64,11 +66,11 @@ closable l k b list room =
 
 -- ---- one section
 
-pub records_installed : (l q : List ℕ) (size : length l ≡ SIZE) {n : numbers.Account} {h list list' : List ℕ} {p : ℕ} {verdicts : List ℕ} → length q ≡ 5120
+pub records_installed : (l q : List ℕ) (size : length l ≡ SIZE) {n : numbers.Account} {h list list' : List ℕ} {p : ℕ} {verdicts : List (Option Verdict)} → length q ≡ 5120
     → Installed n.fragments n.closed n.held h (take 5120 (drop 5200 l)) q list list' p verdicts → RecordsInstalled l (take 5200 l ++ (q ++ drop 5120 (drop 5200 l))) n h list list' p verdicts
 records_installed l q size long e = let w = records_lent l q size long in record { records = rw w.records w; installed = rw w.records (rw (records_part l size) at e) }
 
-pub places_kept : (l q : List ℕ) (size : length l ≡ SIZE) {h verdicts : List ℕ} {n left : ℕ} → length q ≡ 5120
+pub places_kept : (l q : List ℕ) (size : length l ≡ SIZE) {h : List ℕ} {verdicts : List (Option Verdict)} {n left : ℕ} → length q ≡ 5120
     → left ≤ n → Left q left verdicts h n → PlacesKept l (take 80 l ++ (q ++ drop 5120 (drop 80 l))) h verdicts n left
 places_kept l q size long f e = let w = places_lent l q size long in record { places = rw w.places w; fewer = f; stay = rw w.places e }
 
@@ -103,7 +105,7 @@ module _ (l : List ℕ) {n : numbers.Account} {list : List ℕ} (d : Due l n lis
     unfolding listed_in listed installed
     listed_same = λ t. upward a.fragments 0 (λ i. map (λ x. record { fragment = i; transaction = x }) (pieces (verdict (committed e (held_same t)) (upto e (held_same t i))) (upto e (held_same t i))))
 
-  pub close_done : (l₁ l₂ l₃ list' verdicts : List ℕ) (p left : ℕ) → RecordsInstalled l l₁ n (places_of l) list list' p verdicts → PlacesKept l₁ l₂ (places_of l) verdicts n.held left
+  pub close_done : (l₁ l₂ l₃ list' : List ℕ) (verdicts : List (Option Verdict)) (p left : ℕ) → RecordsInstalled l l₁ n (places_of l) list list' p verdicts → PlacesKept l₁ l₂ (places_of l) verdicts n.held left
       → WithHead l₂ l₃ (head_bytes (closed_numbers n left)) → CloseDone l l₃ list list' p
   unfolding close settle account_fits
   close_done l₁ l₂ l₃ list' verdicts p left s c h a v =

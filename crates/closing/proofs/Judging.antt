@@ -1,4 +1,5 @@
 -- The judgement of a close, from a look at the lot: what may be read, and a law for each answer. Assumes nothing.
+use Rattle.std.specs.Prelude.{Result, Ok, Err}
 use Prim.Native.Nat.{ℕ, zero, suc, ◌+◌, ◌*◌, ◌<◌, ◌≤◌}
 use mathlib.Core.Path.{◌≡◌, refl, sym, ap, ◌∙◌}
 use mathlib.Core.List.{List}
@@ -10,11 +11,10 @@ use Rattle.wire.specs.Numbers.{number32}
 use Rattle.model.specs.Lists.{one, count_below, bits_of}
 use Rattle.model.specs.Account.{Account, account_fits}
 use Rattle.model.specs.Closing.{missing, judge_close, judge_room}
-use Rattle.model.specs.declared.Outcome.{Outcome}
-use Rattle.model.specs.declared.Outcome.TheVariants.{Done, Refused}
 use Rattle.model.specs.declared.Refusal.TheVariants.{TooShort, MarkMissing}
 use Rattle.model.proofs.Tests.{nth}
 use Rattle.model.proofs.Sums.{sum_same}
+use Rattle.model.specs.declared.Refusal.{Refusal}
 use Rattle.lot.specs.Layout.{streams_of}
 use Rattle.lot.specs.View.{holds, view_lot}
 use Rattle.lot.specs.declared.Account as numbers
@@ -29,11 +29,11 @@ use Rattle.closing.specs.Closing.{MarksJudged, Judged}
 -- ---- 16
 
 module _ (l : List ℕ) (room : ℕ) where
-  pub too_short : room < 512 → Judged l room (Refused TooShort)
+  pub too_short : room < 512 → Judged l room (Err TooShort)
   unfolding judge_room
   too_short h a v = rw (lt-ltb room 512 h)
 
-  pub long_enough : {r : Outcome} → 512 ≤ room → MarksJudged l r → Judged l room r
+  pub long_enough : {r : Result (Unit {0}) Refusal} → 512 ≤ room → MarksJudged l r → Judged l room r
   unfolding judge_room
   long_enough h w a v = w a v ∙ rw (le-ltb room 512 h)
 
@@ -81,10 +81,10 @@ module _ (l : List ℕ) {n : numbers.Account} (k : Looked l n) where
     bits_are = m.bits ∙ rw fragments_are (bits_same (missing_in s n.closed) (missing a) a.fragments each)
 
   module _ (s : List ℕ) {byte ones : ℕ} (e : s ≡ streams_of l) (m : MissingMarks s n.closed n.fragments byte ones) where
-    pub all_there : ones ≡ 0 → MarksJudged l Done
+    pub all_there : ones ≡ 0 → MarksJudged l (Ok tt)
     unfolding judge_close
     all_there z a v = rw (eq-eqb (count_below (missing a) a.fragments) 0 (sym (many_are s e m a v) ∙ z))
 
-    pub some_missing : (ones ≡ 0 → ⊥) → MarksJudged l (Refused (MarkMissing byte ones))
+    pub some_missing : (ones ≡ 0 → ⊥) → MarksJudged l (Err (MarkMissing byte ones))
     unfolding judge_close
     some_missing z a v = rw (bits_are s e m a v, many_are s e m a v, ne_eqb (count_below (missing a) a.fragments) 0 (λ q. z (many_are s e m a v ∙ q)))

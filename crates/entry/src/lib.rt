@@ -6,10 +6,10 @@
 ghost use Rattle.std.specs.Prelude.{◌≡◌};
 ghost use Rattle.model.specs.Entry.{fields_fit, fits, in_account, inside};
 ghost use Rattle.model.specs.Distance.{distance};
-ghost use Rattle.model.specs.Stages.{stage_after, is_unheard, is_writing, is_prepared, takes};
+ghost use Rattle.model.specs.Stages.{stage_after, is_unheard, takes};
 ghost use Rattle.entry.specs.Sequence.{sequence_of};
 
-use model::{Entry, Stage};
+use model::{Entry, Refusal, Stage};
 
 // The fields of an entry but for bytes 10 and 11: a held entry passes this too.
 pub fn fields_fit(kind: u8, transaction: u32, argument: u16, value: u32) -> bool
@@ -51,93 +51,50 @@ pub fn inside(e: Entry, fragments: u8, keys: u16) -> bool
 pub fn distance(received: u16, expected: u16) -> i16
     ensures { result ≡ distance received expected }
 {
-    let difference = std::num::wrapping_sub_u16(received, expected);
-    if difference < 32768 {
-        difference as i16
-    } else {
-        -1 - ((65535 - difference) as i16)
-    }
-}
-
-// Where a received sequence number stands.
-#[derive(Clone, Copy)]
-pub enum Sequence {
-    Due,
-    Seen,
-    Gap,
+    received.wrapping_sub(expected).cast_signed()
 }
 
 // Refusals 7 and 8.
-pub fn judge_sequence(received: u16, expected: u16) -> Sequence
+pub fn judge_sequence(received: u16, expected: u16) -> Result<(), Refusal>
     ensures { result ≡ sequence_of received expected }
 {
     let d = distance(received, expected);
     if d < 0 {
-        Sequence::Seen
+        Err(Refusal::Seen)
     } else if 0 < d {
-        Sequence::Gap
+        Err(Refusal::Gap)
     } else {
-        Sequence::Due
+        Ok(())
     }
 }
 
 // The stage that an entry makes.
+#[tactic(auto, unfolding(model::specs::Stages::stage_after))]
 pub fn stage_after(kind: u8) -> Stage
     ensures { result ≡ stage_after kind }
 {
-    if kind <= Entry::DELETE {
-        Stage::Writing
-    } else if kind == Entry::P {
-        Stage::Prepared
-    } else {
-        Stage::Ended
+    match kind {
+        0..=Entry::DELETE => Stage::Writing,
+        Entry::P => Stage::Prepared,
+        _ => Stage::Ended,
     }
 }
 
 pub fn is_unheard(s: Stage) -> bool
     ensures { result ≡ is_unheard s }
 {
-    match s {
-        Stage::Unheard => true,
-        Stage::Writing => false,
-        Stage::Prepared => false,
-        Stage::Ended => false,
-    }
-}
-
-fn is_writing(s: Stage) -> bool
-    ensures { result ≡ is_writing s }
-{
-    match s {
-        Stage::Unheard => false,
-        Stage::Writing => true,
-        Stage::Prepared => false,
-        Stage::Ended => false,
-    }
-}
-
-fn is_prepared(s: Stage) -> bool
-    ensures { result ≡ is_prepared s }
-{
-    match s {
-        Stage::Unheard => false,
-        Stage::Writing => false,
-        Stage::Prepared => true,
-        Stage::Ended => false,
-    }
+    s == Stage::Unheard
 }
 
 // The table: whether an entry of this kind is taken at this stage of its transaction.
+#[tactic(auto, unfolding(model::specs::Stages::takes))]
 pub fn takes(kind: u8, s: Stage) -> bool
     ensures { result ≡ takes kind s }
 {
-    if kind <= Entry::CC {
-        is_unheard(s) | is_writing(s)
-    } else if kind == Entry::CP {
-        is_prepared(s)
-    } else if kind == Entry::A {
-        is_writing(s) | is_prepared(s)
-    } else {
-        false
+    match kind {
+        0..=Entry::CC => matches!(s, Stage::Unheard | Stage::Writing),
+        Entry::CP => s == Stage::Prepared,
+        Entry::A => matches!(s, Stage::Writing | Stage::Prepared),
+        _ => false,
     }
 }

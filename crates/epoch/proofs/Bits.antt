@@ -1,5 +1,5 @@
 -- The number made of bits: a turn of the loop that makes it, and its ones are as many as the bits that are set. Assumes nothing.
-use Prim.Native.Nat.{ℕ, zero, suc, ◌+◌, ◌*◌, ◌^◌, ◌≤◌, ◌<◌}
+use Prim.Native.Nat.{ℕ, zero, suc, ◌+◌, ◌*◌, ◌^◌, ◌%◌, ◌≤◌, ◌<◌}
 use mathlib.Core.Path.{◌≡◌, refl}
 use mathlib.Core.Bool.{Bool, true, false}
 use mathlib.Core.List.{List}
@@ -8,6 +8,9 @@ use native.Mathlib.Nat.{pow-suc}
 use native.Mathlib.Omega.{arith}
 use lib.Count.{ones, ones_cat}
 use lib.Pow.{pow_mono}
+use Rattle.std.specs.Int.Bits.{bit_or}
+use Rattle.std.proofs.Math.Nat.{mod-eq_of_lt}
+use Rattle.std.proofs.lemmas.Nat.{or_comm, or_shifted}
 use lib.ListN.{drop}
 use Rattle.wire.specs.Numbers.{number32}
 use Rattle.model.specs.Lists.{sum_below, one, count_below, bits_of}
@@ -48,17 +51,13 @@ count_le p (suc n) = go (p n) (count_le p n)
 
 -- ---- a turn
 
-module _ (p : ℕ → Bool) (i x w : ℕ) (inv : x ≡ bits_of p i) (pw : w ≡ 2 ^ i) where
-  pub bits_hit : p i ≡ true → x + w ≡ bits_of p (i + 1)
+module _ (p : ℕ → Bool) (i x : ℕ) (inv : x ≡ bits_of p i) where
+  pub bits_hit : p i ≡ true → i < 8 → bit_or x (1 * 2 ^ i % 2 ^ 8) ≡ bits_of p (i + 1)
   unfolding bits_of
-  bits_hit t = rw (add-one i, t) (omega arith)
+  bits_hit t h =
+      let b : x < 2 ^ i = rw inv (bits_lt p i) in
+      rw (mod-eq_of_lt {n = 1 * 2 ^ i} {m = 2 ^ 8} (omega (arith, pow_mono {i = suc i} {j = 8} h, pow-suc 2 i)), or_comm x (1 * 2 ^ i), or_shifted 1 i x b, add-one i, t) (omega arith)
 
   pub bits_miss : p i ≡ false → x ≡ bits_of p (i + 1)
   unfolding bits_of
   bits_miss t = rw (add-one i, t) (omega arith)
-
-  pub next_pow : w * 2 ≡ 2 ^ (i + 1)
-  next_pow = rw (add-one i, pow-suc 2 i) (omega arith)
-
-  pub small : i ≤ 8 → (w ≤ 256) × (x < w)
-  small h = omega (arith, bits_lt p i, pow_mono {i = i} {j = 8} h)

@@ -2,6 +2,7 @@
 use Prim.Native.Nat.{ℕ, suc, ◌≤◌}
 use mathlib.Core.Path.{◌≡◌, sym, ap, ◌∙◌}
 use mathlib.Core.Bool.{true}
+use Rattle.std.specs.Prelude.{Option}
 use mathlib.Core.List.{List}
 use native.Mathlib.Omega.{arith}
 use borrow.Author.Tests.{lt-ltb}
@@ -11,6 +12,7 @@ use Rattle.model.specs.Decoding.{mine}
 use Rattle.model.proofs.Tests.{and_l}
 use Rattle.model.specs.Section.{plain, section_fits}
 use Rattle.held.proofs.Section.{stream_within, held_total}
+use Rattle.verdicts.specs.declared.Verdict.{Verdict}
 use Rattle.verdicts.specs.Orderly.{Orderly}
 use Rattle.verdicts.specs.Verdicts.{held_in, Verdicts}
 use Rattle.verdicts.proofs.FromSection.{orderly}
@@ -29,26 +31,26 @@ module _ {f c n : ℕ} {h : List ℕ} (w : Fits f c n h) where
   unfolding section_fits
   plain_before = and_l _ _ w.fit
 
-  pub few : (numbers : List ℕ) → n ≤ 256 → count_of numbers h n f ≤ 256
-  few numbers l =
+  pub few : (answers : List (Option Verdict)) → n ≤ 256 → count_of answers h n f ≤ 256
+  few answers l =
       let t : sum_below (λ s. length (held_in h n s)) f ≡ n = ap (sum_below (λ s. length (held_in h n s))) (sym w.all) ∙ held_total w.keys c w.counters h n w.fit in
-      omega (arith, few_pieces numbers h n f)
+      omega (arith, few_pieces answers h n f)
 
-  module _ (numbers : List ℕ) (v : Verdicts numbers h n (suc c)) where
-    pub installed : {r r' l l' : List ℕ} {p : ℕ} → n ≤ 256 → 512 ≤ length l → InstalledAll numbers h n f l l' r r' p → Installed f c n h r r' l l' p numbers
+  module _ (answers : List (Option Verdict)) (v : Verdicts answers h n (suc c)) where
+    pub installed : {r r' l l' : List ℕ} {p : ℕ} → n ≤ 256 → 512 ≤ length l → InstalledAll answers h n f l l' r r' p → Installed f c n h r r' l l' p answers
     installed {l = l} room long a =
-        let is = listed_is h numbers n (suc c) f in_order_law v in
-        let b = few numbers room in
+        let is = listed_is h answers n (suc c) f in_order_law v in
+        let b = few answers room in
         record {
-          counted = a.counted ∙ sym (length_listed h numbers n f) ∙ ap length is;
-          listed = a.listed ∙ streams_are h numbers n l f (omega arith) ∙ rw (is, a.counted);
-          records = λ i j u s. a.records i j s ∙ rw (lt-ltb i f u) (after_are numbers h n (suc c) in_order_law v i j _);
+          counted = a.counted ∙ sym (length_listed h answers n f) ∙ ap length is;
+          listed = a.listed ∙ streams_are h answers n l f (omega arith) ∙ rw (is, a.counted);
+          records = λ i j u s. a.records i j s ∙ rw (lt-ltb i f u) (after_are answers h n (suc c) in_order_law v i j _);
           verdicts = v;
         }
 
-    pub stays_held : {h' : List ℕ} {n' : ℕ} → Left h' n' numbers h n → StaysHeld f c n h h' n'
+    pub stays_held : {h' : List ℕ} {n' : ℕ} → Left h' n' answers h n → StaysHeld f c n h h' n'
     stays_held k = record {
-      held = λ i. ap (mine i) k.items_are ∙ left_mine numbers h n (suc c) v i n (omega arith);
-      sorted = rw k.items_are (left_sorted numbers h f n in_order_law (λ i u. omega (arith, stream_within w.keys c w.counters h n w.fit i u, w.all)));
+      held = λ i. ap (mine i) k.items_are ∙ left_mine answers h n (suc c) v i n (omega arith);
+      sorted = rw k.items_are (left_sorted answers h f n in_order_law (λ i u. omega (arith, stream_within w.keys c w.counters h n w.fit i u, w.all)));
       plain_places = k.stays_plain plain_before;
     }

@@ -1,4 +1,3 @@
 pub mod Bits
-pub mod Shot
 pub mod Listing
 pub mod Closing

@@ -1,13 +1,14 @@
 -- The sections of a lot after a close, by the model.
-use Rattle.std.specs.Prelude.{ℕ, suc, ◌*◌, ◌<◌, ◌≤◌, ◌≡◌, true, List, ◌++◌, map, length, drop}
+use Rattle.std.specs.Prelude.{Option, ℕ, suc, ◌*◌, ◌<◌, ◌≤◌, ◌≡◌, true, List, ◌++◌, map, length, drop}
 use Rattle.model.specs.Lists.{upward}
 use Rattle.model.specs.Account.{Held}
-use Rattle.model.specs.Closing.{upto, Verdict, verdict, committed, pieces, survivors, apply, Piece, pairs}
+use Rattle.model.specs.Closing.{upto, Verdict as ModelVerdict, verdict, committed, pieces, survivors, apply, Piece, pairs}
 use Rattle.model.specs.Decoding.{mine}
 use Rattle.model.specs.declared.Counters.{Counters}
 use Rattle.model.proofs.ByStream.{Sorted}
 use Rattle.model.specs.Section.{plain, section_fits, items}
 use Rattle.lot.specs.View.{record_at}
+use Rattle.verdicts.specs.declared.Verdict.{Verdict}
 use Rattle.verdicts.specs.Verdicts.{held_in, Verdicts}
 
 -- ---- what is closed: the n places of h, of f streams, after the closed epoch c
@@ -34,7 +35,7 @@ module _ (h : List ℕ) (n e : ℕ) where
   abbrev pub looked_in : ℕ → List Held
   looked_in i = upto e (held_in h n i)
 
-  abbrev pub verdict_in : ℕ → ℕ → Verdict
+  abbrev pub verdict_in : ℕ → ℕ → ModelVerdict
   verdict_in i = verdict (committed e (held_in h n)) (looked_in i)
 
   abbrev pub pieces_in : ℕ → List ℕ
@@ -43,13 +44,13 @@ module _ (h : List ℕ) (n e : ℕ) where
   unfoldable pub listed_in : ℕ → List Piece
   listed_in f = upward f 0 (λ i. map (λ t. record { fragment = i; transaction = t }) (pieces_in i))
 
--- ---- what installing leaves: records r' and list l'; it answers p pieces, and the number of each verdict
+-- ---- what installing leaves: records r' and list l'; it answers p pieces, and the verdict on each place
 
-pub record Installed (f c n : ℕ) (h r r' l l' : List ℕ) (p : ℕ) (numbers : List ℕ) : Type 0 where
+pub record Installed (f c n : ℕ) (h r r' l l' : List ℕ) (p : ℕ) (answers : List (Option Verdict)) : Type 0 where
   pub counted : p ≡ length (listed_in h n (suc c) f)
   pub listed : l' ≡ pairs (listed_in h n (suc c) f) ++ drop (p * 2) l
   pub records : (i k : ℕ) → i < f → k < 128 → record_at r' i k ≡ apply (pieces_in h n (suc c) i) k (looked_in h n (suc c) i) (record_at r i k)
-  pub verdicts : Verdicts numbers h n (suc c)
+  pub verdicts : Verdicts answers h n (suc c)
 
 -- ---- what then stays held: the n' places of h'
 

@@ -1,5 +1,5 @@
 // Closing an epoch over the sections of a lot: the marks that are missing, and the pieces installed.
-// It stands on `verdicts` and `install`, and on `survivors` for what stays held; it takes its snapshot with `wire`.
+// It stands on `verdicts` and `install`, on `survivors` for what stays held, on `lookback` for the held section, and on `wire`.
 #![tactic(auto)]
 
 ghost use Rattle.std.specs.Prelude.{◌≡◌, ◌+◌, ◌*◌, ◌≤◌, ◌<◌, length};
@@ -8,12 +8,19 @@ ghost use Rattle.model.specs.Lists.{bits_of};
 ghost use Rattle.epoch.specs.Missing.{missing_in, MissingMarks};
 ghost use Rattle.epoch.specs.Closed.{Closable, Installed};
 
+use install::Snapshot;
+use lookback::Section;
+use verdicts::Verdict;
+
+// (Each of these three asks that there is an epoch after the closed one: a number with that invariant would be proved where a look
+// at the lot makes it, as the fact is now.)
+
 // Stream i has not taken the mark of the epoch after the closed one.
-fn is_missing(streams: &[u8], closed: u32, i: usize) -> bool
+fn is_missing(streams: &[u8], closed: u32, i: u8) -> bool
     requires { (i * 8 + 8 ≤ length streams.now) × (closed < 4294967295) }
     ensures { result ≡ missing_in streams.now closed i }
 {
-    wire::get32(streams, i * 8 + 4) <= closed + 1
+    wire::get::<u32>(streams, usize::from(i) * 8 + 4) <= closed + 1
 }
 
 // The byte of missing streams, bit i for stream i.
@@ -21,20 +28,16 @@ fn missing_byte(streams: &[u8], fragments: u8, closed: u32) -> u8
     requires { (fragments ≤ 8) × (fragments * 8 ≤ length streams.now) × (closed < 4294967295) }
     ensures { result ≡ bits_of (missing_in streams.now closed) fragments }
 {
-    let mut byte: u32 = 0;
-    let mut weight: u32 = 1;
-    let mut i: u8 = 0;
-    while i < fragments {
-        if is_missing(streams, closed, i as usize) {
-            byte += weight;
+    let mut byte: u8 = 0;
+    for i in 0..fragments {
+        if is_missing(streams, closed, i) {
+            byte |= 1 << i;
         }
-        weight *= 2;
-        i += 1;
     }
-    byte as u8
+    byte
 }
 
-#[derive(Clone, Copy)]
+#[derive(Clone, Copy, PartialEq, Eq, Debug)]
 pub struct Missing {
     pub streams: u8,
     pub ones: u8,
@@ -46,10 +49,9 @@ pub fn missing_marks(streams: &[u8], fragments: u8, closed: u32) -> Missing
     ensures { MissingMarks streams.now closed fragments result.streams result.ones }
 {
     let byte = missing_byte(streams, fragments, closed);
-    let ones = u32::count_ones(byte as u32);
     Missing {
         streams: byte,
-        ones: ones as u8,
+        ones: byte.count_ones() as u8,
     }
 }
 
@@ -58,8 +60,8 @@ pub fn snapshot(section: &[u8]) -> [u8; 5120]
     requires { length section.now ≡ 5120 }
     ensures { result ≡ section.now }
 {
-    let mut old = [0u8; 5120];
-    wire::copy(section, &mut old);
+    let mut old = [0; 5120];
+    old.copy_from_slice(section);
     old
 }
 
@@ -67,26 +69,25 @@ pub fn snapshot(section: &[u8]) -> [u8; 5120]
 #[derive(Clone, Copy)]
 pub struct Applied {
     pub pieces: u32,
-    pub numbers: [u8; 256],
+    pub verdicts: [Option<Verdict>; 256],
 }
 
 // Installs and lists the pieces of the epoch after the closed one, by the places as they stood when the call began.
 pub fn install_pieces(
     records: &mut [u8],
     list: &mut [u32],
-    old: &[u8],
+    held: Section<'_>,
     fragments: u8,
-    n: usize,
     closed: u32,
 ) -> Applied
-    requires { Closable old.now records.old list.old fragments n closed }
-    ensures { Installed fragments closed n old.now records.old records.new list.old list.new result.pieces result.numbers }
+    requires { Closable held.bytes.now records.old list.old fragments held.count closed }
+    ensures { Installed fragments closed held.entry.count held.entry.bytes.now records.old records.new list.old list.new result.pieces result.verdicts }
 {
-    let last = lookback::lasts(old, n);
-    let numbers = verdicts::verdicts(old, &last, n, closed + 1);
-    let pieces = install::install_all(records, list, old, &last, &numbers, n, fragments);
+    let last = held.lasts();
+    let verdicts = verdicts::verdicts(held, &last, closed + 1);
+    let pieces = Snapshot::new(held, &last, &verdicts).install_all(records, list, fragments);
     Applied {
         pieces: pieces as u32,
-        numbers: numbers,
+        verdicts,
     }
 }

@@ -1,37 +1,28 @@
 -- What stands at a place of a held section, and at a stream of a list of counters. Assumes nothing.
 use Prim.Native.Nat.{ℕ, zero, suc, ◌+◌, ◌*◌, ◌-◌, ◌<◌, ◌≤◌}
 use mathlib.Core.Path.{◌≡◌, ap, ◌∙◌}
-use mathlib.Core.Bool.{Bool, ◌&&◌, and-true, and_assoc}
-use mathlib.Core.List.{List, [], ◌∷◌}
+use mathlib.Core.Bool.{◌&&◌, ◌||◌, and-true, and_assoc}
+use mathlib.Core.List.{List, []}
 use native.Mathlib.Omega.{arith}
-use lib.Dec.{leb, eqb}
+use lib.Dec.{leb, ltb, eqb}
 use lib.ListN.{get_or, drop, get_or-eq_default}
 use lib.Seq.{get_or-drop}
-use Rattle.wire.specs.Numbers.{number16, number32}
-use Rattle.model.specs.Lists.{every}
-use Rattle.model.specs.Account.{fresh_counters}
-use Rattle.model.specs.Decoding.{item_of, counters_of, counters_at, parse}
+use Rattle.wire.specs.Numbers.{number32}
+use Rattle.model.specs.Lists.{every, all}
+use Rattle.model.specs.Entry.{CC, A, fields_fit, in_account}
+use Rattle.model.specs.Image.{Item}
+use Rattle.model.specs.Stages.{takes}
+use Rattle.model.specs.Accepting.{entry_fits, follows}
+use Rattle.model.specs.declared.Stage.{Stage}
+use Rattle.model.specs.Account.{Held, fresh_counters}
+use Rattle.model.specs.Decoding.{counters_of, counters_at, parse}
 use Rattle.model.specs.Section.{item_at, plain_place}
-use Rattle.lookback.proofs.Places.{number16_drop, number32_drop, length_parse, get_or_parse}
-use Rattle.held.specs.Place.{may_follow, in_order}
+use Rattle.lookback.specs.Places.{stage_at}
+use Rattle.lookback.specs.Last.{last_before}
+use Rattle.lookback.proofs.Places.{number32_drop, length_parse, get_or_parse}
+use Rattle.held.specs.Place.{may_follow, in_order, flag_fits, place_fits}
 
 module _ (h : List ℕ) (i : ℕ) where
-  pub argument_is : (item_at h i).entry.argument ≡ number16 h (i * 20 + 8)
-  unfolding item_of
-  argument_is = number16_drop (i * 20) h 8
-
-  pub flagged_is : (item_at h i).entry.flagged ≡ eqb (get_or h (i * 20 + 11) 0) 1
-  unfolding item_of
-  flagged_is = rw (get_or-drop (i * 20) h 11 0)
-
-  pub value_is : (item_at h i).entry.value ≡ number32 h (i * 20 + 12)
-  unfolding item_of
-  value_is = number32_drop (i * 20) h 12
-
-  pub epoch_is : (item_at h i).entry.epoch ≡ number32 h (i * 20 + 16)
-  unfolding item_of
-  epoch_is = number32_drop (i * 20) h 16
-
   pub plain_is : plain_place (drop (i * 20) h) ≡ (eqb (get_or h (i * 20 + 2) 0) 0 && eqb (get_or h (i * 20 + 3) 0) 0 && eqb (get_or h (i * 20 + 10) 0) 0 && leb (get_or h (i * 20 + 11) 0) 1)
   unfolding plain_place every
   plain_is = simp (get_or-drop, and_assoc, and-true)
@@ -49,7 +40,20 @@ module _ (l : List ℕ) (f i : ℕ) where
   pub epoch_outside : f ≤ i → (counters_at (parse f 8 counters_of l) i).epoch ≡ 1
   epoch_outside h = ap (λ s. s.epoch) (get_or-eq_default (parse f 8 counters_of l) fresh_counters {n = i} (omega (arith, length_parse 8 counters_of f l)))
 
--- four tests, one after the other
-pub together : (a b c d : Bool) → (a && b && c && d) ≡ every (a ∷ b ∷ c ∷ d ∷ [])
-unfolding every
-together a b c d = simp (and_assoc, and-true)
+-- ---- the tests of a place, one after the other
+
+pub entry_is : (f k : ℕ) (e : Item) → entry_fits f k e.stream e.entry
+    ≡ (leb e.entry.kind A && fields_fit e.entry.kind e.entry.transaction e.entry.argument e.entry.value && in_account f k e.entry.kind e.stream e.entry.argument)
+unfolding entry_fits every
+entry_is f k e = simp (and_assoc, and-true)
+
+pub turn_is : (c o : ℕ) (s : Stage) (x : Held) → follows c o [] s x
+    ≡ (leb 1 x.epoch && leb x.epoch o && takes x.kind s && (ltb x.kind CC || ltb c x.epoch) && flag_fits c s x)
+unfolding follows flag_fits every all
+turn_is c o s x = simp (and_assoc, and-true)
+
+pub place_is : (k c f : ℕ) (l h : List ℕ) (i : ℕ) → place_fits k c (parse f 8 counters_of l) h i
+    ≡ (plain_place (drop (i * 20) h) && in_order h i && entry_fits f k (item_at h i).stream (item_at h i).entry
+    && follows c (counters_at (parse f 8 counters_of l) (item_at h i).stream).epoch [] (stage_at h (last_before h i)) (item_at h i).entry)
+unfolding place_fits every
+place_is k c f l h i = rw (length_parse 8 counters_of f l) (simp (and_assoc, and-true))

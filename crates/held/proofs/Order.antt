@@ -44,7 +44,7 @@ last_compared xs g e w = go (dec_lt g.stream e.stream) (ℕ_discrete g.stream e.
     low = all_snoc (λ x. leb x.stream g.stream) xs g ∙ and (and_l (all (λ x. leb x.stream g.stream) xs) _ w) (le-leb g.stream g.stream (omega arith))
 
     lower : g.stream ≤ e.stream → all (λ x. leb x.stream e.stream) (xs ++ g ∷ []) ≡ true
-    lower l = all_weaken _ _ (λ x a. le-leb x.stream e.stream (omega (arith, leb-true x.stream g.stream a))) (xs ++ g ∷ []) low
+    lower l = all_weaken (λ x. leb x.stream g.stream) (λ x. leb x.stream e.stream) (λ x a. le-leb x.stream e.stream (omega (arith, leb-true x.stream g.stream a))) (xs ++ g ∷ []) low
 
     go : Dec (g.stream < e.stream) → Dec (g.stream ≡ e.stream) → in_order_all (xs ++ g ∷ []) e ≡ (ltb g.stream e.stream || eqb g.stream e.stream && leb g.entry.epoch e.entry.epoch)
     go (yes l) d = rw (lower (omega arith), mine_none g.stream e.stream (xs ++ g ∷ []) l low, lt-ltb g.stream e.stream l)

@@ -1,6 +1,7 @@
 -- A lot into which an accepted image is loaded holds the account that the data show. Assumes nothing.
+use Rattle.std.specs.Prelude.{Some}
 use Prim.Native.Nat.{ℕ, ◌*◌, ◌-◌, ◌<◌, ◌≤◌}
-use mathlib.Core.Path.{◌≡◌, sym, ap, ◌∙◌}
+use mathlib.Core.Path.{◌≡◌, sym, ap, subst, ◌∙◌}
 use mathlib.Core.Bool.{true}
 use mathlib.Core.List.{List, ◌++◌}
 use native.Mathlib.Omega.{arith}
@@ -17,20 +18,20 @@ use Rattle.model.proofs.Decode.{stream_long, stream_back, item_long, item_back, 
 use Rattle.model.proofs.Image.{well_formed}
 use Rattle.lookback.proofs.Places.{length_parse}
 use Rattle.lot.specs.Layout.{streams_of, places_of}
-use Rattle.lot.specs.Head.{numbers_with}
+use Rattle.lot.specs.Head.{numbers_with, head_bytes}
+use Rattle.lot.specs.declared.Account.{Account as Numbers}
 use Rattle.lot.specs.View.{holds, view_lot}
-use Rattle.lot.proofs.Shown.{StreamsShow, PlacesShow, head_shown}
+use Rattle.lot.proofs.Shown.{HeadShows, StreamsShow, PlacesShow, head_shown}
 use Rattle.lot.proofs.Views.{below_in, streams_are}
 use Rattle.writes.specs.Sections.{overwritten}
 use Rattle.writes.proofs.Changes.{sections_hold}
 use Rattle.trailer.specs.Trailer.{trailer_fits}
 use Rattle.trailer.specs.declared.Trailer.{Trailer}
 use Rattle.judging.specs.Judging.{judged_of, present_at, record_fits, sections_fit}
-use Rattle.judging.specs.declared.Judged.TheVariants.{Accepted}
 use Rattle.judging.proofs.Parts.{Bytes, bytes_drop, streams_sound, held_sound, streams_plain, held_plain}
 use Rattle.judging.proofs.Sections.{account_fits_law, held_fit, shown_by, Plain, sections_plain}
 use Rattle.judging.proofs.Passing.{Passes, last_numbers, last_image, agrees, within, long_image, part_from, part_from_law, loaded, form_passes, accepted_passes, accepted_numbers}
-use Rattle.image.specs.Loading.{head_numbers, Loadable, ImageLoaded, LotLoaded}
+use Rattle.image.specs.Loading.{Loadable, ImageLoaded, LotLoaded}
 use Rattle.image.proofs.Putting.{found_as_put}
 
 module _ (t : Trailer) (b : List ℕ) (bb : Bytes b) (w : form_fits (shown_by t b) ≡ true) (p : Plain t b) (can : Loadable t b) where
@@ -41,7 +42,7 @@ module _ (t : Trailer) (b : List ℕ) (bb : Bytes b) (w : form_fits (shown_by t 
   a = account x
 
   abbrev f : ℕ
-  f = t.fragments
+  f = t.account.fragments
 
   abbrev records : List ℕ
   records = drop (f * 8) b
@@ -63,33 +64,33 @@ module _ (t : Trailer) (b : List ℕ) (bb : Bytes b) (w : form_fits (shown_by t 
         zero_bytes = λ i h. streams_plain y ss i h;
       })
 
-  places_shown : (rest : List ℕ) → PlacesShow (overwritten (take (t.held * 20) places) rest) t.held a
+  places_shown : (rest : List ℕ) → PlacesShow (overwritten (take (t.account.held * 20) places) rest) t.account.held a
   unfolding account
   places_shown rest =
       let es = x.held in
-      let n = length_parse 20 item_of t.held places in
-      let e : take (t.held * 20) places ≡ each held20 es = sym (held_sound t.held places (bytes_drop (t.records * 8) records (bytes_drop (f * 8) b bb)) (omega (arith, can.long, length-drop (t.records * 8) records, length-drop (f * 8) b)) p.of_places) in
+      let n = length_parse 20 item_of t.account.held places in
+      let e : take (t.account.held * 20) places ≡ each held20 es = sym (held_sound t.account.held places (bytes_drop (t.records * 8) records (bytes_drop (f * 8) b bb)) (omega (arith, can.long, length-drop (t.records * 8) records, length-drop (f * 8) b)) p.of_places) in
       rw e
       (let y = drop (length (each held20 es)) rest in
-      let back : items t.held (each held20 es ++ y) ≡ es = rw n at (parse_each held20 20 item_long item_of item_back es y) in
+      let back : items t.account.held (each held20 es ++ y) ≡ es = rw n at (parse_each held20 20 item_long item_of item_back es y) in
       record {
         held = λ i h. ap (mine i) back;
         sorted = rw back (held_sorted x.keys x.closed x.streams es (held_fit x w));
         plain_places = rw n at (held_plain y es);
       })
 
-  few_keys : t.keys ≤ 128
+  few_keys : t.account.keys ≤ 128
   unfolding account_fits
-  few_keys = leb-true t.keys 128 (nth _ (account_fits_law x w) 5)
+  few_keys = leb-true t.account.keys 128 (nth _ (account_fits_law x w) 5)
 
   image_holds : (l m : List ℕ) → ImageLoaded l m t b → view_lot m ≡ holds a
   unfolding account
   image_holds l m d =
-      let q : numbers_with t.held a ≡ head_numbers t = λ i. record { number = t.number; fragments = length_parse 8 counters_of f b i; keys = t.keys; held = t.held; closed = t.closed } in
+      let q : numbers_with t.account.held a ≡ t.account = λ i. record { number = t.account.number; fragments = length_parse 8 counters_of f b i; keys = t.account.keys; held = t.account.held; closed = t.account.closed } in
       sections_hold d.sections
       (record {
-        count = t.held;
-        head = rw (← q) (head_shown t.held a);
+        count = t.account.held;
+        head = let P : Numbers → Type 0 = λ n. HeadShows (head_bytes n) t.account.held a in subst P q (head_shown t.account.held a);
         streams = streams_shown (streams_of l);
         places = rw (← drop-drop (t.records * 8) (f * 8) b) (places_shown (places_of l));
         records = λ i k hi hk. found_as_put d.cleared d.zeros d.sized t.records records (bytes_drop (f * 8) b bb) can.small_records i k (omega (arith, few_keys));
@@ -102,31 +103,31 @@ module _ (l : List ℕ) (bl : Bytes l) (p : Passes l) where
   abbrev numbers : Trailer
   numbers = last_numbers l
 
-  account_passes : account_fits numbers.number numbers.fragments numbers.keys ≡ true
+  account_passes : account_fits numbers.account.number numbers.account.fragments numbers.account.keys ≡ true
   unfolding trailer_fits
   account_passes = nth _ p.trailer 2
 
-  held_passes : numbers.held ≤ 256
+  held_passes : numbers.account.held ≤ 256
   unfolding trailer_fits
-  held_passes = leb-true numbers.held 256 (nth _ p.trailer 3)
+  held_passes = leb-true numbers.account.held 256 (nth _ p.trailer 3)
 
-  records_pass : (i : ℕ) → i < numbers.records → record_fits numbers.fragments numbers.keys (drop (numbers.fragments * 8) (last_image l)) i ≡ true
+  records_pass : (i : ℕ) → i < numbers.records → record_fits numbers.account.fragments numbers.account.keys (drop (numbers.account.fragments * 8) (last_image l)) i ≡ true
   unfolding sections_fit
-  records_pass = below_in (record_fits numbers.fragments numbers.keys (drop (numbers.fragments * 8) (last_image l))) numbers.records (nth _ p.sections 1)
+  records_pass = below_in (record_fits numbers.account.fragments numbers.account.keys (drop (numbers.account.fragments * 8) (last_image l))) numbers.records (nth _ p.sections 1)
 
   loadable : Loadable numbers (last_image l)
   unfolding account_fits record_fits
   loadable =
-      let s = drop (numbers.fragments * 8) (last_image l) in
-      let f = leb-true numbers.fragments 8 (nth _ account_passes 3) in
-      let k = leb-true numbers.keys 128 (nth _ account_passes 5) in
+      let s = drop (numbers.account.fragments * 8) (last_image l) in
+      let f = leb-true numbers.account.fragments 8 (nth _ account_passes 3) in
+      let k = leb-true numbers.account.keys 128 (nth _ account_passes 5) in
       record {
         long = long_image l bl p ∙ agrees l bl p;
         few_fragments = f;
         few_held = held_passes;
         small_records = λ i h. record {
-          fragment = omega (arith, ltb-true (present_at s i).fragment numbers.fragments (nth _ (records_pass i h) 1));
-          key = omega (arith, ltb-true (present_at s i).key numbers.keys (nth _ (records_pass i h) 2));
+          fragment = omega (arith, ltb-true (present_at s i).fragment numbers.account.fragments (nth _ (records_pass i h) 1));
+          key = omega (arith, ltb-true (present_at s i).key numbers.account.keys (nth _ (records_pass i h) 2));
         };
       }
 
@@ -138,7 +139,7 @@ module _ (l : List ℕ) (bl : Bytes l) (p : Passes l) where
       let q = loaded l bl p in
       cc
 
-module _ (l : List ℕ) (bl : Bytes l) (t : Trailer) (e : judged_of l ≡ Accepted t) where
+module _ (l : List ℕ) (bl : Bytes l) (t : Trailer) (e : judged_of l ≡ Some t) where
   abbrev part : List ℕ
   part = part_from l (length l - t.length)
 

@@ -16,18 +16,17 @@ use Rattle.model.specs.Image.{Present}
 use Rattle.model.specs.Decoding.{present_of, parse, find}
 use Rattle.lot.specs.Layout.{SIZE, streams_of, places_of, records_of}
 use Rattle.lot.specs.View.{record_at}
-use Rattle.lot.specs.Head.{head_bytes}
 use Rattle.lot.specs.Writing.{with_record}
 use Rattle.lot.proofs.Lengths.{length_records}
 use Rattle.lot.proofs.Records.{length_record, put_own, put_other}
-use Rattle.writes.specs.Sections.{WithHead, WithStreams, WithPlaces, WithRecords, overwritten}
+use Rattle.writes.specs.Sections.{WithRecords, overwritten}
 use Rattle.writes.specs.Fresh.{Zeros}
 use Rattle.writes.proofs.Fresh.{no_record}
 use Rattle.trailer.specs.declared.Trailer.{Trailer}
 use Rattle.judging.specs.Judging.{present_at}
 use Rattle.judging.proofs.Parts.{Bytes, bytes_drop}
 use Rattle.judging.proofs.Records.{fragment_at_law, key_at, value_at}
-use Rattle.image.specs.Loading.{SmallRecord, SmallRecords, with_present, with_all, head_numbers, HeldLoaded, ImageLoaded}
+use Rattle.image.specs.Loading.{SmallRecord, SmallRecords, with_present, with_all, HeldLoaded, ImageLoaded}
 
 -- ---- one record more
 
@@ -80,20 +79,10 @@ module _ (r : List ℕ) (z : Zeros r) (sized : length r ≡ 5120) where
       put_first (with_all r ps) (present_of l) i k (find i k ps) (length_all ps) (s 0 (omega arith)) (rw (value_at l 0) (small_value l (0 * 8 + 4) b)) hk
       (found_as_put n (drop 8 l) (bytes_drop 8 l b) (λ j h. let q : 8 + j * 8 ≡ suc j * 8 = omega arith in rw (drop-drop (j * 8) 8 l, q) (s (suc j) (omega arith))) i k hk)
 
--- ---- head, streams and places
-
-pub held_loaded : (l l₁ l₂ m : List ℕ) (t : Trailer) (s p : List ℕ) → WithHead l l₁ (head_bytes (head_numbers t)) → WithStreams l₁ l₂ (overwritten s (streams_of l₁)) → WithPlaces l₂ m (overwritten p (places_of l₂)) → HeldLoaded l m t s p
-held_loaded l l₁ l₂ m t s p a b c = record {
-  head = c.head ∙ b.head ∙ a.head;
-  streams = c.streams ∙ b.streams ∙ ap (overwritten s) a.streams;
-  places = c.places ∙ ap (overwritten p) (b.places ∙ a.places);
-  records = c.records ∙ b.records ∙ a.records;
-}
-
 -- ---- a whole image
 
-pub image_loaded : (l l₁ l₂ m : List ℕ) (t : Trailer) (b s p x : List ℕ) → length l ≡ SIZE → length l₂ ≡ SIZE → s ≡ take (t.fragments * 8) b → p ≡ take (t.held * 20) (drop (t.fragments * 8 + t.records * 8) b) → x ≡ drop (t.fragments * 8) b
-    → HeldLoaded l l₁ t s p → WithRecords l₁ l₂ (records_of l₂) → Zeros (records_of l₂) → WithRecords l₂ m (with_all (records_of l₂) (parse t.records 8 present_of x)) → ImageLoaded l m t b
+pub image_loaded : (l l₁ l₂ m : List ℕ) (t : Trailer) (b s p x : List ℕ) → length l ≡ SIZE → length l₂ ≡ SIZE → s ≡ take (t.account.fragments * 8) b → p ≡ take (t.account.held * 20) (drop (t.account.fragments * 8 + t.records * 8) b) → x ≡ drop (t.account.fragments * 8) b
+    → HeldLoaded l l₁ t.account s p → WithRecords l₁ l₂ (records_of l₂) → Zeros (records_of l₂) → WithRecords l₂ m (with_all (records_of l₂) (parse t.records 8 present_of x)) → ImageLoaded l m t b
 image_loaded l l₁ l₂ m t b s p x size size₂ es ep ex h u z w = record {
   cleared = records_of l₂;
   zeros = z;

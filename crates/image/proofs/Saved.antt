@@ -31,8 +31,8 @@ use Rattle.trailer.specs.Trailer.{trailer_bytes}
 use Rattle.trailer.specs.declared.Trailer.{Trailer}
 use Rattle.judging.proofs.Parts.{Bytes, bytes_drop, parse_singles, streams_sound, held_sound}
 use Rattle.judging.proofs.Trailers.{trailer_is}
-use Rattle.image.specs.Saving.{Written, SectionsSaved, BodySaved, record_bytes, trailer_behind, SavedAs, LotSaved}
-use Rattle.image.proofs.Writing.{write_more, write_part}
+use Rattle.image.specs.Saving.{Written, SectionsSaved, record_bytes, section_bytes, trailer_behind, SavedAs, LotSaved}
+use Rattle.image.proofs.Writing.{write_more}
 
 bytes_take : (n : ℕ) (l : List ℕ) → Bytes l → Bytes (take n l)
 bytes_take zero l b i = omega arith
@@ -91,7 +91,7 @@ module _ (l : List ℕ) {a : Account} (v : view_lot l ≡ holds a) (size : lengt
       ∙ by_streams a.fragments (items c p) shows.places.sorted in
       rw (q, e) (held_sound c p (bytes_take 5120 (drop 80 l) (bytes_drop 80 l b)) (omega (arith, e, ok.room, length_places l size)) shows.places.plain_places)
 
-  module _ {m m' : List ℕ} {end : ℕ} (w : BodySaved l (numbers_in a) m m' end) where
+  module _ {m m' : List ℕ} {end : ℕ} (w : SectionsSaved l (numbers_in a) m m' end) where
     body_is : Written m m' 0 end (body (form a))
     unfolding body
     body_is = rw (streams_are, records_are, held_are) w.bytes
@@ -104,44 +104,35 @@ module _ (l : List ℕ) {a : Account} (v : view_lot l ≡ holds a) (size : lengt
         let whole : length (body x) + 24 ≡ end + 24 = omega (arith, body_is.behind) in
         sym (trailer_is x (length (body x) + 24)
         ∙ ap trailer_bytes (λ i. record {
-          number = a.number;
-          fragments = streams_length a i;
-          keys = a.keys;
+          account = record { number = a.number; fragments = streams_length a i; keys = a.keys; held = held_length a i; closed = a.closed };
           records = many i;
-          held = held_length a i;
-          closed = a.closed;
           length = whole i;
         }))
 
-    image_saved : end + 24 ≤ length m' → (q : List ℕ) → q ≡ trailer_bytes (trailer_behind (numbers_in a) end) → SavedAs m (take end m' ++ (q ++ drop (end + 24 - end) (drop end m'))) (end + 24) a
+    image_saved : {m'' q : List ℕ} {e : ℕ} → Written m' m'' end e q → q ≡ trailer_bytes (trailer_behind (numbers_in a) end) → SavedAs m m'' (end + 24) a
     unfolding image bytes
-    image_saved h q e =
+    image_saved {q = q} {e = e} w behind =
         let x = form a in
-        let z : q ≡ trailer24 x (length (body x) + 24) = e ∙ trailer_behind_law in
-        let lq : end + length q ≡ end + 24 = ap (λ n. end + n) (ap length z ∙ trailer_long x (length (body x) + 24)) in
-        let all = write_more m 0 (omega arith) body_is (write_part m' end (omega arith) q (end + 24) lq) in
+        let z : q ≡ trailer24 x (length (body x) + 24) = behind ∙ trailer_behind_law in
+        let whole : e ≡ end + 24 = w.behind ∙ ap (λ n. end + n) (ap length z ∙ trailer_long x (length (body x) + 24)) in
+        let all = write_more m 0 (omega arith) body_is w in
         let o : 0 + length (image a) ≡ length (image a) = omega arith in
-        record { answer = all.behind ∙ rw z o; bytes = all.bytes ∙ rw z (ap (λ n. image a ++ drop n m) o) }
+        record { answer = sym whole ∙ all.behind ∙ rw z o; bytes = all.bytes ∙ rw z (ap (λ n. image a ++ drop n m) o) }
 
-pub lot_saved : (l m m' : List ℕ) (n : numbers.Account) (end : ℕ) (t : Trailer) (q : List ℕ) → look_of l ≡ Holds n → length l ≡ SIZE → Bytes l → BodySaved l n m m' end → end + 24 ≤ length m' → t ≡ trailer_behind n end → q ≡ trailer_bytes t
-    → LotSaved l m (take end m' ++ (q ++ drop (end + 24 - end) (drop end m'))) t.length
+pub lot_saved : (l : List ℕ) (n : numbers.Account) {m m' m'' q : List ℕ} {end e : ℕ} (t : Trailer) → look_of l ≡ Holds n → length l ≡ SIZE → Bytes l → SectionsSaved l n m m' end → Written m' m'' end e q → t ≡ trailer_behind n end → q ≡ trailer_bytes t
+    → {out : List ℕ} → out ≡ m'' → LotSaved l m out t.length
 unfolding trailer_behind
-lot_saved l m m' n end t q look size b w h et eq a v =
+lot_saved l n {end = end} t look size b w last et eq left a v =
     let e = looked_numbers l n look v in
-    rw et (image_saved l v size b (rw e at w) h q (eq ∙ ap trailer_bytes (et ∙ ap (λ n. trailer_behind n end) e)))
+    rw (left, et) (image_saved l v size b (rw e at w) last (eq ∙ ap trailer_bytes (et ∙ ap (λ n. trailer_behind n end) e)))
 
-pub sections_written : {m m₁ m₂ m₃ : List ℕ} {i j k : ℕ} {s x p : List ℕ} → Written m m₁ 0 i s → Written m₁ m₂ i j x → Written m₂ m₃ j k p → Written m m₃ 0 k (s ++ (x ++ p))
-sections_written {m = m} {s = s} {x = x} {p = p} u v w = rw (← append_assoc s x p) (write_more m 0 (omega arith) (write_more m 0 (omega arith) u v) w)
+pub sections_written : {m m₁ m₂ m₃ : List ℕ} {at i j k : ℕ} {s x p : List ℕ} → at ≤ length m → Written m m₁ at i s → Written m₁ m₂ i j x → Written m₂ m₃ j k p → Written m m₃ at k (s ++ (x ++ p))
+sections_written {m = m} {at = at} {s = s} {x = x} {p = p} h u v w = rw (← append_assoc s x p) (write_more m at h (write_more m at h u v) w)
 
--- the parts that are lent of the sections s, r and p
-pub body_saved : (l : List ℕ) (n : numbers.Account) {m m' : List ℕ} {end : ℕ} {s r p : List ℕ} → s ≡ streams_of l → r ≡ records_of l → p ≡ places_of l
-    → SectionsSaved m m' end (take (n.fragments * 8 - 0) s) (record_bytes r n.keys n.fragments) (take (n.held * 20 - 0) p) → BodySaved l n m m' end
-body_saved l n {s = s} {r = r} {p = p} es er ep w =
-    let x : n.fragments * 8 - 0 ≡ n.fragments * 8 = omega arith in
-    let y : n.held * 20 - 0 ≡ n.held * 20 = omega arith in
-    rw (← es, ← er, ← ep, ← x, ← y) w
+pub sections_saved : {l m m' : List ℕ} {n : numbers.Account} {end : ℕ} → Written m m' 0 end (section_bytes l n) → end ≤ 13376 → SectionsSaved l n m m' end
+sections_saved w h = record { bytes = w; short = h }
 
-pub room_before : (l : List ℕ) (n : numbers.Account) {m m' : List ℕ} {end : ℕ} → length l ≡ SIZE → n.fragments ≤ 8 → n.held ≤ 256 → BodySaved l n m m' end → n.fragments * 8 + n.held * 20 ≤ end
+pub room_before : (l : List ℕ) (n : numbers.Account) {m m' : List ℕ} {end : ℕ} → length l ≡ SIZE → n.fragments ≤ 8 → n.held ≤ 256 → SectionsSaved l n m m' end → n.fragments * 8 + n.held * 20 ≤ end
 room_before l n size f h w =
     let s = take (n.fragments * 8) (streams_of l) in
     let x = record_bytes (records_of l) n.keys n.fragments in

@@ -1,17 +1,16 @@
 -- Bytes written one after the other in a buffer. Assumes nothing.
-use Prim.Native.Nat.{ℕ, ◌+◌, ◌-◌, ◌/◌, ◌%◌, ◌<◌, ◌≤◌}
+use Rattle.std.specs.Prelude.{Option, Some}
+use Prim.Native.Nat.{ℕ, ◌+◌, ◌/◌, ◌%◌, ◌<◌, ◌≤◌}
 use mathlib.Core.Path.{◌≡◌, refl, sym, ap, ◌∙◌}
 use mathlib.Core.List.{List, [], ◌++◌, append_assoc, append-nil}
 use native.Mathlib.Numerals.{add-one}
 use native.Mathlib.Omega.{arith}
-use lib.ListN.{length, take, drop, length-append, length-take, drop_of_length-le, take-append-drop}
-use lib.Seq.{length-take-le, take_at, drop_at, drop-drop, take-length}
+use lib.ListN.{length, take, drop, length-append, take-append-drop}
+use lib.Seq.{length-take-le, take_at, drop_at, drop-drop}
 use Rattle.wire.specs.Numbers.{with16, with32, bytes16, bytes32}
 use Rattle.model.specs.Lists.{upward}
 use Rattle.model.specs.Account.{Record, absent, present}
 use Rattle.model.specs.Image.{Present, shown, record8, each}
-use Rattle.model.specs.declared.Found.TheVariants as found
-use Rattle.model.specs.declared.Refusal.{Refusal}
 use Rattle.model.proofs.Decode.{record_long}
 use Rattle.model.proofs.Tests.{no_way}
 use Rattle.lot.specs.Writing.{found_of}
@@ -41,17 +40,6 @@ module _ (m : List ℕ) (at : ℕ) (room : at ≤ length m) where
   pub write_more : {m' m'' x y : List ℕ} {e e' : ℕ} → Written m m' at e x → Written m' m'' e e' y → Written m m'' at e' (x ++ y)
   write_more {x = x} {y = y} v w = record { bytes = w.bytes ∙ rw (v.behind, v.bytes) (written_more x y); behind = w.behind ∙ rw (v.behind, length-append x y) (omega arith) }
 
-  -- x is left in the part that is lent from `at` up to `end`
-  pub write_part : (x : List ℕ) (end : ℕ) → at + length x ≡ end → Written m (take at m ++ (x ++ drop (end - at) (drop at m))) at end x
-  write_part x end e = let z : at + (end - at) ≡ end = omega arith in record { bytes = rw (drop-drop (end - at) at m, z, e); behind = sym e }
-
-  pub bytes_part : (x q : List ℕ) → q ≡ take (length x) x ++ drop (length x) (take (at + length x - at) (drop at m)) → Written m (take at m ++ (q ++ drop (at + length x - at) (drop at m))) at (at + length x) x
-  bytes_part x q e =
-      let n = length x in
-      let z : at + n - at ≡ n = omega arith in
-      let none : drop n (take (at + n - at) (drop at m)) ≡ [] = rw z (drop_of_length-le (take n (drop at m)) {i = n} (omega (arith, length-take n (drop at m)))) in
-      rw (e, none, take-length x, append-nil x) (write_part x (at + n) refl)
-
 -- ---- a record
 
 pub record_written : (m : List ℕ) (r : Present) → length m ≡ 8 → r.fragment < 256 → with32 (with16 (with16 m 0 r.fragment) 2 r.key) 4 r.value ≡ record8 r
@@ -62,26 +50,15 @@ record_written m r len small =
     rw (spell 8 m len, low, high)
 
 module _ (i k : ℕ) where
-  pub shows_present : (y : Record) (v : ℕ) → found.Present v ≡ found_of y → each record8 (shown i k y) ≡ record8 (record { fragment = i; key = k; value = v })
+  pub shows_present : (y : Record) (v : ℕ) → Some v ≡ found_of y → each record8 (shown i k y) ≡ record8 (record { fragment = i; key = k; value = v })
   unfolding each shown
   shows_present absent v e = no_way cc
   shows_present (present w) v e = let z : w ≡ v = cc in rw z (append-nil (record8 (record { fragment = i; key = k; value = v })))
 
-  pub shows_absent : (y : Record) → found.Absent ≡ found_of y → each record8 (shown i k y) ≡ []
+  pub shows_other : (y : Record) (r : Option ℕ) → r ≡ found_of y → ((v : ℕ) → r ≡ Some v → ⊥) → each record8 (shown i k y) ≡ []
   unfolding each shown
-  shows_absent absent e = refl
-  shows_absent (present w) e = no_way cc
-
-  -- what is left in a lent part of 8 bytes
-  pub record_part : (m q : List ℕ) (at : ℕ) (y : Record) (v : ℕ) → at + 8 ≤ length m → q ≡ record8 (record { fragment = i; key = k; value = v }) → found.Present v ≡ found_of y
-      → Written m (take at m ++ (q ++ drop (at + 8 - at) (drop at m))) at (at + 8) (each record8 (shown i k y))
-  record_part m q at y v h w e =
-      let r : Present = record { fragment = i; key = k; value = v } in
-      rw (w, shows_present y v e) (write_part m at (omega arith) (record8 r) (at + 8) (rw (record_long r)))
-
-pub always_read : {X : Type 0} (y : Record) (r : Refusal) → found.NotRead r ≡ found_of y → X
-always_read absent r e = no_way cc
-always_read (present w) r e = no_way cc
+  shows_other absent r e n = refl
+  shows_other (present w) r e n = absurd (n w e)
 
 -- ---- the records of a section r, one after the other
 

@@ -1,6 +1,5 @@
 -- What loading an image leaves in a lot.
-use Rattle.std.specs.Prelude.{ℕ, ◌+◌, ◌*◌, ◌<◌, ◌≤◌, ◌≡◌, List, [], ◌∷◌, length, take, drop}
-use Rattle.std.proofs.Math.Option.{some}
+use Rattle.std.specs.Prelude.{ℕ, ◌+◌, ◌*◌, ◌<◌, ◌≤◌, ◌≡◌, List, [], ◌∷◌, length, take, drop, Some}
 use Rattle.model.specs.Account.{Account}
 use Rattle.model.specs.Image.{Present}
 use Rattle.model.specs.Decoding.{present_of, parse, load}
@@ -34,26 +33,24 @@ with_all r (p ∷ ps) = with_present (with_all r ps) p
 
 -- ---- an image b, whose trailer has the numbers t
 
-abbrev pub head_numbers : Trailer → numbers.Account
-head_numbers t = record { number = t.number; fragments = t.fragments; keys = t.keys; held = t.held; closed = t.closed }
-
 pub record Loadable (t : Trailer) (b : List ℕ) : Type 0 where
-  pub long : length b ≡ image_length t.fragments t.records t.held
-  pub few_fragments : t.fragments ≤ 8
-  pub few_held : t.held ≤ 256
-  pub small_records : SmallRecords (drop (t.fragments * 8) b) t.records
+  pub long : length b ≡ image_length t.account.fragments t.records t.account.held
+  pub few_fragments : t.account.fragments ≤ 8
+  pub few_held : t.account.held ≤ 256
+  pub small_records : SmallRecords (drop (t.account.fragments * 8) b) t.records
 
-abbrev pub HeldLoaded : List ℕ → List ℕ → Trailer → List ℕ → List ℕ → Type 0
-HeldLoaded l m t s p = Sections m (head_bytes (head_numbers t)) (overwritten s (streams_of l)) (overwritten p (places_of l)) (records_of l)
+-- head, streams and places; n are the numbers in the head
+abbrev pub HeldLoaded : List ℕ → List ℕ → numbers.Account → List ℕ → List ℕ → Type 0
+HeldLoaded l m n s p = Sections m (head_bytes n) (overwritten s (streams_of l)) (overwritten p (places_of l)) (records_of l)
 
 pub record ImageLoaded (l m : List ℕ) (t : Trailer) (b : List ℕ) : Type 0 where
   -- the records before those of the image were put
   pub cleared : List ℕ
   pub zeros : Zeros cleared
   pub sized : length cleared ≡ 5120
-  pub sections : Sections m (head_bytes (head_numbers t)) (overwritten (take (t.fragments * 8) b) (streams_of l)) (overwritten (take (t.held * 20) (drop (t.fragments * 8 + t.records * 8) b)) (places_of l))
-      (with_all cleared (parse t.records 8 present_of (drop (t.fragments * 8) b)))
+  pub sections : Sections m (head_bytes t.account) (overwritten (take (t.account.fragments * 8) b) (streams_of l)) (overwritten (take (t.account.held * 20) (drop (t.account.fragments * 8 + t.records * 8) b)) (places_of l))
+      (with_all cleared (parse t.records 8 present_of (drop (t.account.fragments * 8) b)))
 
 -- the lot m holds the account that the data given show
 abbrev pub LotLoaded : List ℕ → List ℕ → Type 0
-LotLoaded given m = (a : Account) → load given ≡ some a → view_lot m ≡ holds a
+LotLoaded given m = (a : Account) → load given ≡ Some a → view_lot m ≡ holds a

@@ -2,7 +2,7 @@
 // It stands on `wire`, `model`, `lot`, `writes`, `trailer` and `judging`.
 #![tactic(auto)]
 
-ghost use Rattle.std.specs.Prelude.{◌≡◌, ◌∷◌, ◌+◌, ◌*◌, ◌≤◌, ◌<◌, length};
+ghost use Rattle.std.specs.Prelude.{◌≡◌, ◌∷◌, ◌+◌, ◌*◌, ◌≤◌, ◌<◌, length, Some};
 ghost use Rattle.model.specs.Image.{record8, each, LONGEST_IMAGE};
 ghost use Rattle.model.specs.Decoding.{present_of, parse};
 ghost use Rattle.lot.specs.Layout.{SIZE, records_of};
@@ -10,135 +10,99 @@ ghost use Rattle.lot.specs.Look.{look_of};
 ghost use Rattle.lot.specs.declared.Look.TheVariants.{Holds};
 ghost use Rattle.writes.specs.Sections.{WithRecords};
 ghost use Rattle.judging.specs.Judging.{judged_of, present_at};
-ghost use Rattle.judging.specs.declared.Judged.TheVariants.{Accepted};
-ghost use Rattle.image.specs.Saving.{Written, present_in, fragment_bytes, record_bytes, SectionsSaved, BodySaved, trailer_behind, LotSaved};
+ghost use Rattle.image.specs.Saving.{Extends, present_in, fragment_bytes, record_bytes, section_bytes, trailer_behind, LotSaved};
 ghost use Rattle.image.specs.Loading.{SmallRecord, SmallRecords, with_present, with_all, HeldLoaded, Loadable, ImageLoaded, LotLoaded};
 
 use lot::Account;
-use model::Found;
 use trailer::Trailer;
 
 // The longest image of any account.
 pub const LONGEST: usize = 13400;
 
-// ---- saving; each function writes from an index on, and answers the index behind what it wrote
-
-fn save_bytes(from: &[u8], image: &mut [u8], at: usize) -> usize
-    requires { at + length from.now ≤ length image.old }
-    ensures { Written image.old image.new at result from.now }
-{
-    let end = at + from.len();
-    wire::copy(from, &mut image[at..end]);
-    end
-}
+// ---- saving
 
 fn write_record(bytes: &mut [u8], fragment: u8, key: u16, value: u32)
     requires { length bytes.old ≡ 8 }
     ensures { bytes.new ≡ record8 (record { fragment = fragment; key = key; value = value }) }
 {
-    wire::put16(bytes, 0, fragment as u16);
-    wire::put16(bytes, 2, key);
-    wire::put32(bytes, 4, value);
+    wire::put(bytes, 0, fragment as u16);
+    wire::put(bytes, 2, key);
+    wire::put(bytes, 4, value);
 }
 
-// The record of fragment i and key k, if it is present.
-fn save_record(records: &[u8], i: usize, k: usize, image: &mut [u8], at: usize) -> usize
-    requires { (length records.now ≡ 5120) × (i < 8) × (k < 128) × (at + 8 ≤ length image.old) }
-    ensures { Written image.old image.new at result (each record8 (present_in records.now i k)) }
-{
-    match lot::read_record(records, i, k) {
-        Found::Present(value) => {
-            let end = at + 8;
-            write_record(&mut image[at..end], i as u8, k as u16, value);
-            return end;
-        }
-        Found::Absent => {
-            return at;
-        }
-        Found::NotRead(_) => {
-            return at;
+// An image that is being saved: the lent bytes, and how many of them are written.
+#[derive(Drop)]
+struct Saving<'a> {
+    image: &'a mut [u8],
+    end: usize,
+}
+
+impl Saving<'_> {
+    fn bytes(&mut self, from: &[u8])
+        requires { self.old.end + length from.now ≤ length self.old.image.now }
+        ensures { Extends self.old self.new from.now }
+    {
+        let end = self.end + from.len();
+        let image = &mut *self.image;
+        image[self.end..end].copy_from_slice(from);
+        self.end = end;
+    }
+
+    // The record of fragment i and key k, if it is present.
+    fn record(&mut self, records: &[u8], i: usize, k: usize)
+        requires { (length records.now ≡ 5120) × (i < 8) × (k < 128) × (self.old.end + 8 ≤ length self.old.image.now) }
+        ensures { Extends self.old self.new (each record8 (present_in records.now i k)) }
+    {
+        if let Some(value) = lot::read_record(records, i, k) {
+            let mut bytes = [0; 8];
+            write_record(&mut bytes, i as u8, k as u16, value);
+            self.bytes(&bytes);
         }
     }
-}
 
-// The present records of fragment i, by key.
-fn save_fragment(records: &[u8], i: usize, keys: usize, image: &mut [u8], at: usize) -> usize
-    requires { (length records.now ≡ 5120) × (i < 8) × (keys ≤ 128) × (at + 1024 ≤ length image.old) }
-    ensures { Written image.old image.new at result (fragment_bytes records.now i keys) × (result ≤ at + 1024) }
-{
-    let mut end = at;
-    let mut k: usize = 0;
-    while k < keys {
-        end = save_record(records, i, k, image, end);
-        k += 1;
+    // The present records of fragment i, by key.
+    fn fragment(&mut self, records: &[u8], i: usize, keys: usize)
+        requires { (length records.now ≡ 5120) × (i < 8) × (keys ≤ 128) × (self.old.end + 1024 ≤ length self.old.image.now) }
+        ensures { Extends self.old self.new (fragment_bytes records.now i keys) × (self.new.end ≤ self.old.end + 1024) }
+    {
+        for k in 0..keys {
+            self.record(records, i, k);
+        }
     }
-    end
-}
 
-// The present records, by fragment, then key.
-fn save_records(records: &[u8], keys: usize, fragments: usize, image: &mut [u8], at: usize) -> usize
-    requires { (length records.now ≡ 5120) × (keys ≤ 128) × (fragments ≤ 8) × (at + 8192 ≤ length image.old) }
-    ensures { Written image.old image.new at result (record_bytes records.now keys fragments) × (result ≤ at + 8192) }
-{
-    let mut end = at;
-    let mut i: usize = 0;
-    while i < fragments {
-        end = save_fragment(records, i, keys, image, end);
-        i += 1;
+    // The present records of an account, by fragment, then key.
+    fn records(&mut self, records: &[u8], account: Account)
+        requires { (length records.now ≡ 5120) × (account.keys ≤ 128) × (account.fragments ≤ 8) × (self.old.end + 8192 ≤ length self.old.image.now) }
+        ensures { Extends self.old self.new (record_bytes records.now account.keys account.fragments) × (self.new.end ≤ self.old.end + 8192) }
+    {
+        for i in 0..account.fragments as usize {
+            self.fragment(records, i, account.keys as usize);
+        }
     }
-    end
-}
 
-// Streams, present records and places, one after the other.
-fn save_sections(
-    streams: &[u8],
-    records: &[u8],
-    places: &[u8],
-    keys: usize,
-    fragments: usize,
-    image: &mut [u8],
-) -> usize
-    requires { (length streams.now ≤ 64) × (length records.now ≡ 5120) × (length places.now ≤ 5120) × (keys ≤ 128) × (fragments ≤ 8) × (13376 ≤ length image.old) }
-    ensures { SectionsSaved image.old image.new result streams.now (record_bytes records.now keys fragments) places.now }
-{
-    let a = save_bytes(streams, image, 0);
-    let b = save_records(records, keys, fragments, image, a);
-    save_bytes(places, image, b)
-}
-
-// All but the trailer.
-fn save_body(lot: &[u8], account: Account, image: &mut [u8]) -> usize
-    requires { (length lot.now ≡ SIZE) × (account.fragments ≤ 8) × (account.keys ≤ 128) × (account.held ≤ 256) × (LONGEST_IMAGE ≤ length image.old) }
-    ensures { BodySaved lot.now account image.old image.new result }
-{
-    let streams = lot::streams_of(lot);
-    let records = lot::records_of(lot);
-    let places = lot::places_of(lot);
-    let a = (account.fragments as usize) * 8;
-    let b = (account.held as usize) * 20;
-    save_sections(
-        &streams[0..a],
-        records,
-        &places[0..b],
-        account.keys as usize,
-        account.fragments as usize,
-        image,
-    )
+    // Streams, present records and places, one after the other: all but the trailer.
+    fn sections(&mut self, lot: &[u8], account: Account)
+        requires { (length lot.now ≡ SIZE) × (account.fragments ≤ 8) × (account.keys ≤ 128) × (account.held ≤ 256) × (self.old.end ≡ 0) × (LONGEST_IMAGE ≤ length self.old.image.now) }
+        ensures { Extends self.old self.new (section_bytes lot.now account) × (self.new.end ≤ 13376) }
+    {
+        let streams = &lot[lot::STREAMS];
+        let places = &lot[lot::PLACES];
+        self.bytes(&streams[..account.fragments as usize * 8]);
+        self.records(&lot[lot::RECORDS], account);
+        self.bytes(&places[..account.held as usize * 20]);
+    }
 }
 
 // The numbers of the trailer that stands from index `end` on.
+#[tactic(auto, unfolding(crate::specs::Saving::trailer_behind))]
 fn trailer_behind(account: Account, end: usize) -> Trailer
     requires { (account.fragments * 8 + account.held * 20 ≤ end) × (end ≤ 13376) }
     ensures { result ≡ trailer_behind account end }
 {
     let rest = (account.fragments as usize) * 8 + (account.held as usize) * 20;
     Trailer {
-        number: account.number,
-        fragments: account.fragments,
-        keys: account.keys,
+        account,
         records: ((end - rest) / 8) as u16,
-        held: account.held,
-        closed: account.closed,
         length: (end + Trailer::LENGTH) as u32,
     }
 }
@@ -148,10 +112,12 @@ pub fn save_lot(lot: &[u8], account: Account, image: &mut [u8]) -> u32
     requires { (length lot.now ≡ SIZE) × (look_of lot.now ≡ Holds account) × (LONGEST_IMAGE ≤ length image.old) }
     ensures { LotSaved lot.now image.old image.new result }
 {
-    let end = save_body(lot, account, image);
-    let t = trailer_behind(account, end);
-    let whole = end + Trailer::LENGTH;
-    trailer::write_trailer(&mut image[end..whole], t);
+    let mut saving = Saving { image, end: 0 };
+    saving.sections(lot, account);
+    let t = trailer_behind(account, saving.end);
+    let mut bytes = [0; Trailer::LENGTH];
+    trailer::write_trailer(&mut bytes, t);
+    saving.bytes(&bytes);
     t.length
 }
 
@@ -163,35 +129,26 @@ fn load_record(lot: &mut [u8], records: &[u8], j: usize)
     ensures { WithRecords lot.old lot.new (with_present (records_of lot.old) (present_at records.now j)) }
 {
     let fragment = records[j * 8] as usize;
-    let key = wire::get16(records, j * 8 + 2) as usize;
-    let value = wire::get32(records, j * 8 + 4);
+    let key = wire::get::<u16>(records, j * 8 + 2) as usize;
+    let value = wire::get::<u32>(records, j * 8 + 4);
     writes::set_record(lot, fragment, key, value);
 }
 
-// Puts the first n records of an image, the last one first.
+// Puts the first n records of an image, with which what is lent begins, the last one first.
 fn load_records(lot: &mut [u8], records: &[u8], n: usize)
     requires { (length lot.old ≡ SIZE) × (n * 8 ≤ length records.now) × SmallRecords records.now n }
     ensures { WithRecords lot.old lot.new (with_all (records_of lot.old) (parse n 8 present_of records.now)) }
 {
-    let mut j = n;
-    while 0 < j {
-        j -= 1;
+    for j in (0..n).rev() {
         load_record(lot, records, j);
     }
 }
 
 // The head, the streams and the places.
-fn load_held(lot: &mut [u8], streams: &[u8], places: &[u8], t: Trailer)
+fn load_held(lot: &mut [u8], streams: &[u8], places: &[u8], account: Account)
     requires { (length lot.old ≡ SIZE) × (length streams.now ≤ 64) × (length places.now ≤ 5120) }
-    ensures { HeldLoaded lot.old lot.new t streams.now places.now }
+    ensures { HeldLoaded lot.old lot.new account streams.now places.now }
 {
-    let account = Account {
-        number: t.number,
-        fragments: t.fragments,
-        keys: t.keys,
-        held: t.held,
-        closed: t.closed,
-    };
     writes::set_head(lot, account);
     writes::set_streams(lot, streams);
     writes::set_places(lot, places);
@@ -201,17 +158,17 @@ fn load_image(lot: &mut [u8], image: &[u8], t: Trailer)
     requires { (length lot.old ≡ SIZE) × Loadable t image.now }
     ensures { ImageLoaded lot.old lot.new t image.now }
 {
-    let a = (t.fragments as usize) * 8;
+    let a = (t.account.fragments as usize) * 8;
     let b = a + (t.records as usize) * 8;
-    let c = b + (t.held as usize) * 20;
-    load_held(lot, &image[0..a], &image[b..c], t);
+    let c = b + (t.account.held as usize) * 20;
+    load_held(lot, &image[..a], &image[b..c], t.account);
     writes::unset_records(lot);
     load_records(lot, &image[a..], t.records as usize);
 }
 
 // Loads the account of accepted data into a lot, whatever stood there; t is what judging the data found.
 pub fn load_lot(lot: &mut [u8], data: &[u8], t: Trailer)
-    requires { (length lot.old ≡ SIZE) × (judged_of «data».now ≡ Accepted t) }
+    requires { (length lot.old ≡ SIZE) × (judged_of «data».now ≡ Some t) }
     ensures { LotLoaded «data».now lot.new }
 {
     let start = data.len() - (t.length as usize);

@@ -1,7 +1,9 @@
 -- The places of a stream stand together, and its pieces are among them. Assumes nothing.
 use Prim.Native.Nat.{ℕ, zero, suc, ◌+◌, ◌≤◌, ◌<◌}
 use mathlib.Core.Path.{◌≡◌, refl}
-use mathlib.Core.Bool.{Bool}
+use Rattle.std.specs.Prelude.{Option}
+use Rattle.verdicts.specs.declared.Verdict.{Verdict}
+use Rattle.install.specs.declared.Sort.{Sort}
 use mathlib.Core.List.{List, [], append-nil}
 use native.Mathlib.Omega.{arith}
 use native.Mathlib.Decide.{ℕ_discrete, dec_lt}
@@ -44,20 +46,20 @@ module _ {h : List ℕ} {n s a : ℕ} (w : StreamsBelow h n s a) where
         go (yes l) = absurd (omega (arith, w.these b l, w.low, v.rest b (omega arith) (omega (arith, w.low))))
         go (no l) = omega arith
 
-    module _ (numbers : List ℕ) (flagging : Bool) where
-      none_at : (i : ℕ) → ((item_at h i).stream ≡ s → ⊥) → piece_at numbers h s flagging i ≡ []
-      none_at i d = rw (← piece_elsewhere numbers h s i flagging d)
+    module _ (verdicts : List (Option Verdict)) (sort : Sort) where
+      none_at : (i : ℕ) → ((item_at h i).stream ≡ s → ⊥) → piece_at verdicts h s sort i ≡ []
+      none_at i d = rw (← piece_elsewhere verdicts h s i sort d)
 
-      pub till_start : (m : ℕ) → m ≤ a → pieces_till numbers h s flagging m ≡ []
+      pub till_start : (m : ℕ) → m ≤ a → pieces_till verdicts h s sort m ≡ []
       unfolding pieces_till
       till_start zero l = refl
       till_start (suc m) l = let q = w.these m (omega arith) in rw (till_start m (omega arith), none_at m (λ e. omega arith))
 
-      pub till_end : (m : ℕ) → b ≤ m → m ≤ n → pieces_till numbers h s flagging m ≡ pieces_till numbers h s flagging b
+      pub till_end : (m : ℕ) → b ≤ m → m ≤ n → pieces_till verdicts h s sort m ≡ pieces_till verdicts h s sort b
       unfolding pieces_till
       till_end zero l u = let z : b ≡ 0 = omega arith in rw z
       till_end (suc m) l u = go (ℕ_discrete b (suc m)) (till_end m)
         where
-          go : Dec (b ≡ suc m) → (b ≤ m → m ≤ n → pieces_till numbers h s flagging m ≡ pieces_till numbers h s flagging b) → pieces_till numbers h s flagging (suc m) ≡ pieces_till numbers h s flagging b
+          go : Dec (b ≡ suc m) → (b ≤ m → m ≤ n → pieces_till verdicts h s sort m ≡ pieces_till verdicts h s sort b) → pieces_till verdicts h s sort (suc m) ≡ pieces_till verdicts h s sort b
           go (yes z) ih = rw z
-          go (no z) ih = let q = v.rest m (omega arith) (omega arith) in rw (none_at m (λ e. omega arith), append-nil (pieces_till numbers h s flagging m)) (ih (omega arith) (omega arith))
+          go (no z) ih = let q = v.rest m (omega arith) (omega arith) in rw (none_at m (λ e. omega arith), append-nil (pieces_till verdicts h s sort m)) (ih (omega arith) (omega arith))

@@ -1,10 +1,10 @@
 -- The places of a transaction, from its first to the next: the tables and the walk. Assumes nothing.
 use Prim.Native.Nat.{ℕ, zero, suc, ◌+◌, ◌-◌, ◌≤◌, ◌<◌}
 use mathlib.Core.Path.{◌≡◌, refl, sym, ap, subst, ◌∙◌}
+use Rattle.std.specs.Prelude.{Option, Some, None}
 use mathlib.Core.Bool.{Bool, true, false, ◌&&◌, and-true, and-false}
 use mathlib.Core.List.{List, [], ◌∷◌, ◌++◌, append-nil}
 use native.Mathlib.Omega.{arith}
-use native.Mathlib.Numerals.{add-one}
 use native.Mathlib.Decide.{ℕ_discrete}
 use borrow.Author.Tests.{eq-eqb}
 use lib.Dec.{eqb}
@@ -39,41 +39,48 @@ module _ (h : List ℕ) where
 
   -- ---- the table of next places
 
-  pub nexts_none : (next : List ℕ) → Nexts next h 0
+  pub nexts_none : (next : List (Option ℕ)) → Nexts next h 0
   unfolding Nexts
-  nexts_none next i l u = absurd (omega arith)
+  nexts_none next i l before e = absurd (omega arith)
 
-  pub nexts_more : (next : List ℕ) (i before : ℕ) → length next ≡ 257 → i < 256 → Nexts next h i → before ≡ last_before h i → Nexts (set next before (i + 1)) h (i + 1)
+  -- place i is the first of its transaction
+  pub nexts_same : (next : List (Option ℕ)) (i : ℕ) → Nexts next h i → 0 ≡ last_before h i → Nexts next h (i + 1)
   unfolding Nexts
-  nexts_more next i before len room w e q l u = go (ℕ_discrete q i)
+  nexts_same next i w none q l before e = w q (go (ℕ_discrete q i)) before e
+    where
+      go : Dec (q ≡ i) → q < i
+      go (yes z) = absurd (omega (arith, none, e, ap (last_before h) z))
+      go (no z) = omega arith
+
+  pub nexts_more : (next : List (Option ℕ)) (i before : ℕ) → length next ≡ 256 → i < 256 → Nexts next h i → suc before ≡ last_before h i → Nexts (set next before (Some i)) h (i + 1)
+  unfolding Nexts
+  nexts_more next i before len room w e q l b y = go (ℕ_discrete q i)
     where
       low : last_before h i ≤ i
       low = last_le (own_of h i) i
 
-      apart : (m : ℕ) → last_before h q ≡ m → q < i → m ≡ before → ⊥
-      apart zero z k y = omega arith
-      apart (suc p) z k y =
-          let a = last_passes (own_of h q) q p z in
-          let b = last_passes (own_of h i) i p (sym e ∙ sym y) in
-          let same : own_of h q ≡ own_of h i = sym (same_own q p a.1) ∙ same_own i p b.1 in
+      apart : q < i → b ≡ before → ⊥
+      apart k z =
+          let same_place : last_before h i ≡ suc b = sym e ∙ ap suc (sym z) in
+          let x = last_passes (own_of h q) q b y in
+          let a = last_passes (own_of h i) i b same_place in
+          let same : own_of h q ≡ own_of h i = sym (same_own q b x.1) ∙ same_own i b a.1 in
           let hit : own_of h i q ≡ true = ap (λ f. f q) (sym same) ∙ own_self q in
-          omega (arith, last_reaches (own_of h i) i q k hit, last_le (own_of h q) q)
+          omega (arith, last_reaches (own_of h i) i q k hit, x.0)
 
-      go : Dec (q ≡ i) → get_or (set next before (i + 1)) (last_before h q) 0 ≡ suc q
-      go (yes z) = rw (z, ← e) (get_or-set_same next before (i + 1) 0 (omega (arith, low, e)) ∙ add-one i)
-      go (no z) = get_or-set_other next before (last_before h q) (i + 1) 0 (apart (last_before h q) refl (omega arith)) ∙ w q (omega arith) u
+      go : Dec (q ≡ i) → get_or (set next before (Some i)) b None ≡ Some q
+      go (yes z) = let here : b ≡ before = omega (arith, ap (last_before h) z, e, y) in rw (z, here) (get_or-set_same next before (Some i) None (omega (arith, low, e)))
+      go (no z) = get_or-set_other next before b (Some i) None (apart (omega arith)) ∙ w q (omega arith) b y
 
   -- ---- the first place
 
-  pub first_is : (i a before : ℕ) → a ≤ i → own_of h i a ≡ true → before ≡ last_before h a → before ≡ 0 → First h i a
-  first_is i a before l w e z = record { low = l; own = w; none_before = ap (λ f. last_with f a) (sym (same_own i a w)) ∙ sym e ∙ z }
+  pub first_is : (i a : ℕ) → a ≤ i → own_of h i a ≡ true → 0 ≡ last_before h a → First h i a
+  first_is i a l w e = record { low = l; own = w; none_before = ap (λ f. last_with f a) (sym (same_own i a w)) ∙ sym e }
 
-  pub first_back : (i a before : ℕ) → own_of h i a ≡ true → before ≡ last_before h a → 0 < before → (before - 1 < a) × (own_of h i (before - 1) ≡ true)
-  first_back i a zero w e l = absurd (omega arith)
-  first_back i a (suc p) w e l =
+  pub first_back : (i a before : ℕ) → own_of h i a ≡ true → suc before ≡ last_before h a → (before < a) × (own_of h i before ≡ true)
+  first_back i a p w e =
       let r = last_passes (own_of h a) a p (sym e) in
-      let z : suc p - 1 ≡ p = omega arith in
-      rw z (r.0, ap (λ f. f p) (sym (same_own i a w)) ∙ r.1)
+      (r.0, ap (λ f. f p) (sym (same_own i a w)) ∙ r.1)
 
 -- ---- the next place that passes
 
@@ -93,12 +100,12 @@ next_from p a i w (suc d) q e l z = go (p q) refl (λ t. next_from p a i w d (su
     go true t ih = record { place = q; later = l; low = omega arith; passes = t; after = z }
     go false t ih = ih t
 
-pub next_own : (h next : List ℕ) (n i a : ℕ) → Nexts next h n → i < n → a < i → own_of h i a ≡ true → (q : Next (own_of h i) a i) × (get_or next (a + 1) 0 ≡ suc q.place)
+pub next_own : (h : List ℕ) (next : List (Option ℕ)) (n i a : ℕ) → Nexts next h n → i < n → a < i → own_of h i a ≡ true → (q : Next (own_of h i) a i) × (get_or next a None ≡ Some q.place)
 unfolding Nexts last_with
 next_own h next n i a w l u t =
     let q = next_from (own_of h i) a i (own_self h i) (i - suc a) (suc a) (omega arith) (omega arith) (rw t) in
     let b : last_before h q.place ≡ suc a = ap (λ f. last_with f q.place) (same_own h i q.place q.passes) ∙ q.after in
-    (q, ap (λ m. get_or next m 0) (add-one a ∙ sym b) ∙ w q.place (omega (arith, q.low)) (omega (arith, b)))
+    (q, w q.place (omega (arith, q.low)) a b)
 
 -- ---- a transaction's writes, place by place
 
@@ -165,14 +172,18 @@ module _ (h r : List ℕ) (i : ℕ) where
 
   -- a turn: m is what the table of next places says after place a
   pub record Turn (a m : ℕ) : Type 0 where
-    pub some : 1 ≤ m
-    pub later : a < m - 1
-    pub low : m - 1 ≤ i
-    pub own : own_of h i (m - 1) ≡ true
-    pub walked : (r' r'' : List ℕ) → Walked r' a → Changed r' r'' (item_at h a).stream (write_of (item_at h a)) → Walked r'' (m - 1)
+    pub later : a < m
+    pub low : m ≤ i
+    pub own : own_of h i m ≡ true
+    pub walked : (r' r'' : List ℕ) → Walked r' a → Changed r' r'' (item_at h a).stream (write_of (item_at h a)) → Walked r'' m
 
-  pub walk_turn : (next : List ℕ) (n a m : ℕ) → Nexts next h n → i < n → a < i → own_of h i a ≡ true → m ≡ get_or next (a + 1) 0 → Turn a m
-  walk_turn next n a m w l u o e =
+  pub walk_on : (next : List (Option ℕ)) (n a : ℕ) → Nexts next h n → i < n → a < i → own_of h i a ≡ true → (m : ℕ) × (get_or next a None ≡ Some m) × Turn a m
+  walk_on next n a w l u o =
       let q = next_own h next n i a w l u o in
-      let z : m - 1 ≡ q.0.place = omega (arith, q.1) in
-      record { some = omega (arith, q.1); later = omega (arith, q.0.later); low = omega (arith, q.0.low); own = rw z q.0.passes; walked = λ r' r'' c d. rw z (walk_step r' r'' a o c d q.0) }
+      (q.0.place, q.1, record { later = q.0.later; low = q.0.low; own = q.0.passes; walked = λ r' r'' c d. walk_step r' r'' a o c d q.0 })
+
+  pub walk_turn : (next : List (Option ℕ)) (n a m : ℕ) → Nexts next h n → i < n → a < i → own_of h i a ≡ true → get_or next a None ≡ Some m → Turn a m
+  walk_turn next n a m w l u o e =
+      let t = walk_on next n a w l u o in
+      let z : t.0 ≡ m = cc (t.1, e) in
+      subst (Turn a) z t.2

@@ -1,4 +1,4 @@
--- The pieces that the numbers pick are the model's pieces, and installing them leaves the model's records. Assumes nothing.
+-- The pieces that the verdicts pick are the model's pieces, and installing them leaves the model's records. Assumes nothing.
 use Prim.Native.Nat.{ℕ, zero, suc, ◌+◌, ◌≤◌, ◌<◌}
 use mathlib.Core.Path.{◌≡◌, refl, sym, ap, ◌∙◌}
 use mathlib.Core.Logic.{⊎_elim}
@@ -6,14 +6,14 @@ use mathlib.Core.Bool.{Bool, true, false, ◌&&◌, ◌||◌, and-true, and-fals
 use mathlib.Core.List.{List, [], ◌∷◌, ◌++◌, map, map-append, append-nil}
 use native.Mathlib.Omega.{arith}
 use native.Mathlib.Decide.{ℕ_discrete}
-use borrow.Author.Tests.{ne_eqb, eqb-true, le-leb, lt-leb, leb-true, leb-false}
+use borrow.Author.Tests.{eqb-true, le-leb, lt-leb, leb-true, leb-false}
 use lib.Dec.{leb, eqb}
 use lib.ListN.{length, get_or, length-append}
-use Rattle.std.specs.Prelude.{if◌then◌else◌}
+use Rattle.std.specs.Prelude.{Option, Some, None, if◌then◌else◌}
 use Rattle.model.specs.Lists.{filter, sum_below}
 use Rattle.model.specs.Entry.{DELETE, P, CC, CP}
 use Rattle.model.specs.Account.{Held, Record}
-use Rattle.model.specs.Closing.{upto, Verdict, free, install, flag, stay, verdict, committed, installs, flags, pieces, writes_to, after_writes, apply}
+use Rattle.model.specs.Closing.{upto, Verdict as ModelVerdict, free, install, flag, stay, verdict, committed, installs, flags, pieces, writes_to, after_writes, apply}
 use Rattle.model.specs.Stages.{stage_after, takes}
 use Rattle.model.specs.declared.Stage.TheVariants.{Prepared, Ended}
 use Rattle.model.specs.Decoding.{parse, mine}
@@ -23,11 +23,15 @@ use Rattle.model.specs.Section.{item_at}
 use Rattle.lookback.specs.Places.{stage_at}
 use Rattle.lookback.specs.Last.{last_with, is_of, last_before}
 use Rattle.verdicts.specs.Orderly.{Orderly}
-use Rattle.verdicts.specs.Verdicts.{held_in, verdict_at, number_of, number_at, Verdicts}
+use Rattle.verdicts.specs.Verdicts.{held_in, verdict_at, verdict_of, answer_at, Verdicts}
 use Rattle.verdicts.proofs.ByLast.{own, later, es, es_more, takes_prepared, takes_ended}
 use Rattle.install.specs.Writes.{write_of, writes_before}
 use Rattle.install.specs.Order.{own_of}
-use Rattle.install.specs.Pieces.{is_piece, piece_at, pieces_till, pieces_of, after_pieces, count_of}
+use Rattle.verdicts.specs.declared.Verdict.{Verdict}
+use Rattle.verdicts.specs.declared.Verdict.TheVariants.{Free, Install, Flag, Stay}
+use Rattle.install.specs.declared.Sort.{Sort}
+use Rattle.install.specs.declared.Sort.TheVariants.{Committed, Flagged}
+use Rattle.install.specs.Pieces.{picks, is_piece, piece_at, pieces_till, pieces_of, after_pieces, count_of}
 use Rattle.install.proofs.Ordered.{own_self, same_own, after_more, held_more, writes_till, writes_own, writes_other}
 use Rattle.install.proofs.Installing.{after_append}
 
@@ -135,13 +139,16 @@ unfolding apply
 apply_append [] us k hs y = refl
 apply_append (x ∷ ts) us k hs y = apply_append ts us k hs _
 
-module _ (numbers h : List ℕ) (n e : ℕ) (o : Orderly h n) (w : Verdicts numbers h n e) (s : ℕ) where
-  abbrev v : ℕ → Verdict
+module _ (verdicts : List (Option Verdict)) (h : List ℕ) (n e : ℕ) (o : Orderly h n) (w : Verdicts verdicts h n e) (s : ℕ) where
+  abbrev v : ℕ → ModelVerdict
   v = verdict (committed e (held_in h n)) (upto e (held_in h n s))
 
-  abbrev picks : Bool → Held → Bool
-  picks true x = eqb x.kind P && flags (v x.transaction)
-  picks false x = (eqb x.kind CC || eqb x.kind CP) && installs (v x.transaction)
+  abbrev wanted : Sort → ModelVerdict → ℕ → Bool
+  wanted Committed u kind = (eqb kind CC || eqb kind CP) && installs u
+  wanted Flagged u kind = eqb kind P && flags u
+
+  abbrev picked : Sort → Held → Bool
+  picked sort x = wanted sort (v x.transaction) x.kind
 
   abbrev transactions : List ℕ → List ℕ
   transactions is = map (λ i. (item_at h i).entry.transaction) is
@@ -149,43 +156,42 @@ module _ (numbers h : List ℕ) (n e : ℕ) (o : Orderly h n) (w : Verdicts numb
   abbrev till : ℕ → List Held
   till m = upto e (held_in h m s)
 
-  number_flags : (u : Verdict) → eqb (number_of u) 2 ≡ flags u
-  number_flags free = refl
-  number_flags install = refl
-  number_flags flag = refl
-  number_flags stay = refl
+  picks_is : (sort : Sort) (u : ModelVerdict) (kind : ℕ) → picks sort (Some (verdict_of u)) kind ≡ wanted sort u kind
+  picks_is Committed free kind = sym (and-false (eqb kind CC || eqb kind CP))
+  picks_is Committed install kind = sym (and-true (eqb kind CC || eqb kind CP))
+  picks_is Committed flag kind = sym (and-false (eqb kind CC || eqb kind CP))
+  picks_is Committed stay kind = sym (and-false (eqb kind CC || eqb kind CP))
+  picks_is Flagged free kind = sym (and-false (eqb kind P))
+  picks_is Flagged install kind = sym (and-false (eqb kind P))
+  picks_is Flagged flag kind = sym (and-true (eqb kind P))
+  picks_is Flagged stay kind = sym (and-false (eqb kind P))
 
-  number_installs : (u : Verdict) → eqb (number_of u) 1 ≡ installs u
-  number_installs free = refl
-  number_installs install = refl
-  number_installs flag = refl
-  number_installs stay = refl
+  picks_none : (sort : Sort) (kind : ℕ) → picks sort None kind ≡ false
+  picks_none Committed kind = refl
+  picks_none Flagged kind = refl
 
-  piece_is : (flagging : Bool) (m : ℕ) → m < n → is_piece numbers h s flagging m ≡ ((eqb (item_at h m).stream s && leb (item_at h m).entry.epoch e) && picks flagging (item_at h m).entry)
-  unfolding is_piece Verdicts number_at verdict_at
-  piece_is flagging m l = rw (w m l) (go flagging (eqb (item_at h m).stream s) refl (leb (item_at h m).entry.epoch e))
+  piece_is : (sort : Sort) (m : ℕ) → m < n → is_piece verdicts h s sort m ≡ ((eqb (item_at h m).stream s && leb (item_at h m).entry.epoch e) && picked sort (item_at h m).entry)
+  unfolding is_piece Verdicts answer_at verdict_at
+  piece_is sort m l = rw (w m l) (go (eqb (item_at h m).stream s) refl (leb (item_at h m).entry.epoch e))
     where
       x : Held
       x = (item_at h m).entry
 
-      u : Verdict
+      u : ModelVerdict
       u = verdict (committed e (held_in h n)) (upto e (held_in h n (item_at h m).stream)) x.transaction
 
       same : eqb (item_at h m).stream s ≡ true → u ≡ v x.transaction
       same q = ap (λ i. verdict (committed e (held_in h n)) (upto e (held_in h n i)) x.transaction) (eqb-true (item_at h m).stream s q)
 
-      go : (flagging a : Bool) → eqb (item_at h m).stream s ≡ a → (b : Bool)
-          → (a && (if flagging then eqb x.kind P && eqb (if b then number_of u else 4) 2 else (eqb x.kind CC || eqb x.kind CP) && eqb (if b then number_of u else 4) 1)) ≡ ((a && b) && picks flagging x)
-      go flagging false q b = refl
-      go true true q true = rw (same q, number_flags (v x.transaction))
-      go false true q true = rw (same q, number_installs (v x.transaction))
-      go true true q false = and-false (eqb x.kind P)
-      go false true q false = and-false (eqb x.kind CC || eqb x.kind CP)
+      go : (a : Bool) → eqb (item_at h m).stream s ≡ a → (b : Bool) → (a && picks sort (if b then Some (verdict_of u) else None) x.kind) ≡ ((a && b) && picked sort x)
+      go false q b = refl
+      go true q true = rw (same q) (picks_is sort (v x.transaction) x.kind)
+      go true q false = picks_none sort x.kind
 
-  picked_more : (flagging : Bool) (m : ℕ) → map (λ x. x.transaction) (filter (picks flagging) (till (suc m)))
-      ≡ map (λ x. x.transaction) (filter (picks flagging) (till m)) ++ (if (eqb (item_at h m).stream s && leb (item_at h m).entry.epoch e) && picks flagging (item_at h m).entry then (item_at h m).entry.transaction ∷ [] else [])
+  picked_more : (sort : Sort) (m : ℕ) → map (λ x. x.transaction) (filter (picked sort) (till (suc m)))
+      ≡ map (λ x. x.transaction) (filter (picked sort) (till m)) ++ (if (eqb (item_at h m).stream s && leb (item_at h m).entry.epoch e) && picked sort (item_at h m).entry then (item_at h m).entry.transaction ∷ [] else [])
   unfolding filter
-  picked_more flagging m = ap (λ hs. map (λ x. x.transaction) (filter (picks flagging) hs)) (es_more h n o e s 0 m) ∙ go (eqb (item_at h m).stream s && leb (item_at h m).entry.epoch e)
+  picked_more sort m = ap (λ hs. map (λ x. x.transaction) (filter (picked sort) hs)) (es_more h n o e s 0 m) ∙ go (eqb (item_at h m).stream s && leb (item_at h m).entry.epoch e)
     where
       x : Held
       x = (item_at h m).entry
@@ -194,93 +200,88 @@ module _ (numbers h : List ℕ) (n e : ℕ) (o : Orderly h n) (w : Verdicts numb
       some true = refl
       some false = refl
 
-      go : (c : Bool) → map (λ g. g.transaction) (filter (picks flagging) (if c then till m ++ x ∷ [] else till m)) ≡ map (λ g. g.transaction) (filter (picks flagging) (till m)) ++ (if c && picks flagging x then x.transaction ∷ [] else [])
+      go : (c : Bool) → map (λ g. g.transaction) (filter (picked sort) (if c then till m ++ x ∷ [] else till m)) ≡ map (λ g. g.transaction) (filter (picked sort) (till m)) ++ (if c && picked sort x then x.transaction ∷ [] else [])
       go true =
-          ap (map (λ g. g.transaction)) (filter_append (picks flagging) (till m) (x ∷ [])) ∙ map-append (λ g. g.transaction) (filter (picks flagging) (till m)) _
-          ∙ ap (λ ys. map (λ g. g.transaction) (filter (picks flagging) (till m)) ++ ys) (some (picks flagging x))
+          ap (map (λ g. g.transaction)) (filter_append (picked sort) (till m) (x ∷ [])) ∙ map-append (λ g. g.transaction) (filter (picked sort) (till m)) _
+          ∙ ap (λ ys. map (λ g. g.transaction) (filter (picked sort) (till m)) ++ ys) (some (picked sort x))
       go false = sym (append-nil _)
 
-  till_is : (flagging : Bool) (m : ℕ) → m ≤ n → transactions (pieces_till numbers h s flagging m) ≡ map (λ x. x.transaction) (filter (picks flagging) (till m))
+  till_is : (sort : Sort) (m : ℕ) → m ≤ n → transactions (pieces_till verdicts h s sort m) ≡ map (λ x. x.transaction) (filter (picked sort) (till m))
   unfolding pieces_till upto filter mine parse
-  till_is flagging zero l = refl
-  till_is flagging (suc m) l =
-      map-append (λ i. (item_at h i).entry.transaction) (pieces_till numbers h s flagging m) (piece_at numbers h s flagging m)
-      ∙ ap (λ ys. ys ++ transactions (piece_at numbers h s flagging m)) (till_is flagging m (omega arith))
-      ∙ ap (λ b. map (λ x. x.transaction) (filter (picks flagging) (till m)) ++ transactions (if b then m ∷ [] else [])) (piece_is flagging m l)
-      ∙ ap (λ ys. map (λ x. x.transaction) (filter (picks flagging) (till m)) ++ ys) (some ((eqb (item_at h m).stream s && leb (item_at h m).entry.epoch e) && picks flagging (item_at h m).entry))
-      ∙ sym (picked_more flagging m)
+  till_is sort zero l = refl
+  till_is sort (suc m) l =
+      map-append (λ i. (item_at h i).entry.transaction) (pieces_till verdicts h s sort m) (piece_at verdicts h s sort m)
+      ∙ ap (λ ys. ys ++ transactions (piece_at verdicts h s sort m)) (till_is sort m (omega arith))
+      ∙ ap (λ b. map (λ x. x.transaction) (filter (picked sort) (till m)) ++ transactions (if b then m ∷ [] else [])) (piece_is sort m l)
+      ∙ ap (λ ys. map (λ x. x.transaction) (filter (picked sort) (till m)) ++ ys) (some ((eqb (item_at h m).stream s && leb (item_at h m).entry.epoch e) && picked sort (item_at h m).entry))
+      ∙ sym (picked_more sort m)
     where
       some : (b : Bool) → transactions (if b then m ∷ [] else []) ≡ (if b then (item_at h m).entry.transaction ∷ [] else [])
       some true = refl
       some false = refl
 
   -- a piece's place is looked at, of this stream, and no write
-  piece_kind : (flagging : Bool) (x : Held) → picks flagging x ≡ true → P ≤ x.kind
-  piece_kind true x q = let z = eqb-true x.kind P (and_l _ _ q) in omega arith
-  piece_kind false x q =
+  piece_kind : (sort : Sort) (x : Held) → picked sort x ≡ true → P ≤ x.kind
+  piece_kind Flagged x q = let z = eqb-true x.kind P (and_l _ _ q) in omega arith
+  piece_kind Committed x q =
       ⊎_elim (λ a. let z = eqb-true x.kind CC a in omega arith) (λ a. let z = eqb-true x.kind CP a in omega arith) (either (eqb x.kind CC) _ (and_l (eqb x.kind CC || eqb x.kind CP) _ q))
 
-  after_till : (flagging : Bool) (m : ℕ) → m ≤ n → (k : ℕ) (y : Record) → after_pieces h (pieces_till numbers h s flagging m) k y ≡ apply (transactions (pieces_till numbers h s flagging m)) k (till n) y
+  after_till : (sort : Sort) (m : ℕ) → m ≤ n → (k : ℕ) (y : Record) → after_pieces h (pieces_till verdicts h s sort m) k y ≡ apply (transactions (pieces_till verdicts h s sort m)) k (till n) y
   unfolding pieces_till apply after_pieces
-  after_till flagging zero l k y = refl
-  after_till flagging (suc m) l k y =
-      after_append h s (pieces_till numbers h s flagging m) (piece_at numbers h s flagging m) k y
-      ∙ ap (after_pieces h (piece_at numbers h s flagging m) k) (after_till flagging m (omega arith) k y)
-      ∙ go (is_piece numbers h s flagging m) refl (apply (transactions (pieces_till numbers h s flagging m)) k (till n) y)
-      ∙ sym (apply_append (transactions (pieces_till numbers h s flagging m)) (transactions (piece_at numbers h s flagging m)) k (till n) y)
-      ∙ ap (λ ts. apply ts k (till n) y) (sym (map-append (λ i. (item_at h i).entry.transaction) (pieces_till numbers h s flagging m) (piece_at numbers h s flagging m)))
+  after_till sort zero l k y = refl
+  after_till sort (suc m) l k y =
+      after_append h s (pieces_till verdicts h s sort m) (piece_at verdicts h s sort m) k y
+      ∙ ap (after_pieces h (piece_at verdicts h s sort m) k) (after_till sort m (omega arith) k y)
+      ∙ go (is_piece verdicts h s sort m) refl (apply (transactions (pieces_till verdicts h s sort m)) k (till n) y)
+      ∙ sym (apply_append (transactions (pieces_till verdicts h s sort m)) (transactions (piece_at verdicts h s sort m)) k (till n) y)
+      ∙ ap (λ ts. apply ts k (till n) y) (sym (map-append (λ i. (item_at h i).entry.transaction) (pieces_till verdicts h s sort m) (piece_at verdicts h s sort m)))
     where
-      go : (b : Bool) → is_piece numbers h s flagging m ≡ b → (z : Record) → after_pieces h (if b then m ∷ [] else []) k z ≡ apply (transactions (if b then m ∷ [] else [])) k (till n) z
+      go : (b : Bool) → is_piece verdicts h s sort m ≡ b → (z : Record) → after_pieces h (if b then m ∷ [] else []) k z ≡ apply (transactions (if b then m ∷ [] else [])) k (till n) z
       go false q z = refl
       go true q z =
-          let c = sym (piece_is flagging m l) ∙ q in
+          let c = sym (piece_is sort m l) ∙ q in
           let a = and_l (eqb (item_at h m).stream s && leb (item_at h m).entry.epoch e) _ c in
           let at : (item_at h m).stream ≡ s = eqb-true _ _ (and_l _ _ a) in
-          piece_writes h n o e m l (leb-true _ _ (and_r (eqb (item_at h m).stream s) _ a)) (piece_kind flagging (item_at h m).entry (and_r (eqb (item_at h m).stream s && leb (item_at h m).entry.epoch e) _ c)) k z
+          piece_writes h n o e m l (leb-true _ _ (and_r (eqb (item_at h m).stream s) _ a)) (piece_kind sort (item_at h m).entry (and_r (eqb (item_at h m).stream s && leb (item_at h m).entry.epoch e) _ c)) k z
           ∙ ap (λ i. after_writes (λ u. eqb u (item_at h m).entry.transaction) k (upto e (held_in h n i)) z) at
 
   -- THE LAWS of a stream
-  pub pieces_are : map (λ i. (item_at h i).entry.transaction) (pieces_of numbers h n s) ≡ pieces (verdict (committed e (held_in h n)) (upto e (held_in h n s))) (upto e (held_in h n s))
+  pub pieces_are : map (λ i. (item_at h i).entry.transaction) (pieces_of verdicts h n s) ≡ pieces (verdict (committed e (held_in h n)) (upto e (held_in h n s))) (upto e (held_in h n s))
   unfolding pieces
   pieces_are =
-      map-append (λ i. (item_at h i).entry.transaction) (pieces_till numbers h s false n) (pieces_till numbers h s true n)
-      ∙ rw (till_is false n (omega arith), till_is true n (omega arith))
+      map-append (λ i. (item_at h i).entry.transaction) (pieces_till verdicts h s Committed n) (pieces_till verdicts h s Flagged n)
+      ∙ rw (till_is Committed n (omega arith), till_is Flagged n (omega arith))
 
-  pub after_are : (k : ℕ) (y : Record) → after_pieces h (pieces_of numbers h n s) k y ≡ apply (pieces (verdict (committed e (held_in h n)) (upto e (held_in h n s))) (upto e (held_in h n s))) k (upto e (held_in h n s)) y
+  pub after_are : (k : ℕ) (y : Record) → after_pieces h (pieces_of verdicts h n s) k y ≡ apply (pieces (verdict (committed e (held_in h n)) (upto e (held_in h n s))) (upto e (held_in h n s))) k (upto e (held_in h n s)) y
   after_are k y =
-      after_append h s (pieces_till numbers h s false n) (pieces_till numbers h s true n) k y
-      ∙ after_till true n (omega arith) k _ ∙ ap (apply (transactions (pieces_till numbers h s true n)) k (till n)) (after_till false n (omega arith) k y)
-      ∙ sym (apply_append (transactions (pieces_till numbers h s false n)) (transactions (pieces_till numbers h s true n)) k (till n) y)
-      ∙ ap (λ ts. apply ts k (till n) y) (sym (map-append (λ i. (item_at h i).entry.transaction) (pieces_till numbers h s false n) (pieces_till numbers h s true n)) ∙ pieces_are)
+      after_append h s (pieces_till verdicts h s Committed n) (pieces_till verdicts h s Flagged n) k y
+      ∙ after_till Flagged n (omega arith) k _ ∙ ap (apply (transactions (pieces_till verdicts h s Flagged n)) k (till n)) (after_till Committed n (omega arith) k y)
+      ∙ sym (apply_append (transactions (pieces_till verdicts h s Committed n)) (transactions (pieces_till verdicts h s Flagged n)) k (till n) y)
+      ∙ ap (λ ts. apply ts k (till n) y) (sym (map-append (λ i. (item_at h i).entry.transaction) (pieces_till verdicts h s Committed n) (pieces_till verdicts h s Flagged n)) ∙ pieces_are)
 
 -- ---- there are no more pieces than places
 
-module _ (numbers h : List ℕ) (s : ℕ) where
-  one_sort : (m : ℕ) → length (piece_at numbers h s false m) + length (piece_at numbers h s true m) ≤ length (if eqb (item_at h m).stream s then (item_at h m).entry ∷ [] else [])
+module _ (verdicts : List (Option Verdict)) (h : List ℕ) (s : ℕ) where
+  one_sort : (m : ℕ) → length (piece_at verdicts h s Committed m) + length (piece_at verdicts h s Flagged m) ≤ length (if eqb (item_at h m).stream s then (item_at h m).entry ∷ [] else [])
   unfolding is_piece
-  one_sort m = go (eqb (item_at h m).stream s) (eqb (item_at h m).entry.kind P) refl
+  one_sort m = go (eqb (item_at h m).stream s) (get_or verdicts m None)
     where
       k : ℕ
       k = (item_at h m).entry.kind
 
-      number : ℕ
-      number = get_or numbers m 0
+      some : (b : Bool) → length (if b then m ∷ [] else []) ≤ 1
+      some true = omega arith
+      some false = omega arith
 
-      go : (a p : Bool) → eqb k P ≡ p → length (if a && ((eqb k CC || eqb k CP) && eqb number 1) then m ∷ [] else []) + length (if a && (p && eqb number 2) then m ∷ [] else []) ≤ length (if a then (item_at h m).entry ∷ [] else [])
-      go false p q = omega arith
-      go true false q = few (eqb k CC || eqb k CP) (eqb number 1)
-        where
-          few : (b c : Bool) → length (if b && c then m ∷ [] else []) + 0 ≤ 1
-          few true true = omega arith
-          few true false = omega arith
-          few false c = omega arith
-      go true true q = let z = eqb-true k P q in rw (ne_eqb k CC (λ y. omega arith), ne_eqb k CP (λ y. omega arith)) (few (eqb number 2))
-        where
-          few : (c : Bool) → 0 + length (if c then m ∷ [] else []) ≤ 1
-          few true = omega arith
-          few false = omega arith
+      go : (a : Bool) (v : Option Verdict) → length (if a && picks Committed v k then m ∷ [] else []) + length (if a && picks Flagged v k then m ∷ [] else []) ≤ length (if a then (item_at h m).entry ∷ [] else [])
+      go false v = omega arith
+      go true None = omega arith
+      go true (Some Free) = omega arith
+      go true (Some Install) = omega (arith, some (eqb k CC || eqb k CP))
+      go true (Some Flag) = omega (arith, some (eqb k P))
+      go true (Some Stay) = omega arith
 
-  few_till : (m : ℕ) → length (pieces_till numbers h s false m) + length (pieces_till numbers h s true m) ≤ length (held_in h m s)
+  few_till : (m : ℕ) → length (pieces_till verdicts h s Committed m) + length (pieces_till verdicts h s Flagged m) ≤ length (held_in h m s)
   unfolding pieces_till
   few_till zero = omega arith
   few_till (suc m) =
@@ -288,13 +289,13 @@ module _ (numbers h : List ℕ) (s : ℕ) where
         arith,
         few_till m,
         one_sort m,
-        length-append (pieces_till numbers h s false m) (piece_at numbers h s false m),
-        length-append (pieces_till numbers h s true m) (piece_at numbers h s true m),
+        length-append (pieces_till verdicts h s Committed m) (piece_at verdicts h s Committed m),
+        length-append (pieces_till verdicts h s Flagged m) (piece_at verdicts h s Flagged m),
         ap length (held_more h m s),
         length-append (held_in h m s) (if eqb (item_at h m).stream s then (item_at h m).entry ∷ [] else []),
       )
 
-pub few_pieces : (numbers h : List ℕ) (n f : ℕ) → count_of numbers h n f ≤ sum_below (λ s. length (held_in h n s)) f
-few_pieces numbers h n f =
-    sum_most (λ s. length (held_in h n s)) (λ s. length (pieces_of numbers h n s)) f
-    (λ s l. omega (arith, few_till numbers h s n, length-append (pieces_till numbers h s false n) (pieces_till numbers h s true n)))
+pub few_pieces : (verdicts : List (Option Verdict)) (h : List ℕ) (n f : ℕ) → count_of verdicts h n f ≤ sum_below (λ s. length (held_in h n s)) f
+few_pieces verdicts h n f =
+    sum_most (λ s. length (held_in h n s)) (λ s. length (pieces_of verdicts h n s)) f
+    (λ s l. omega (arith, few_till verdicts h s n, length-append (pieces_till verdicts h s Committed n) (pieces_till verdicts h s Flagged n)))

@@ -1,3 +1,4 @@
 pub mod Writes
 pub mod Order
 pub mod Pieces
+pub mod Stream

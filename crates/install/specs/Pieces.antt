@@ -1,31 +1,38 @@
--- The pieces that the numbers of the verdicts pick, as places, and what installing them leaves in list and records.
-use Rattle.std.specs.Prelude.{ℕ, zero, suc, ◌+◌, ◌*◌, ◌<◌, ◌≡◌, Bool, true, false, ◌&&◌, ◌||◌, List, [], ◌∷◌, ◌++◌, ltb, eqb, length, get_or, set, if◌then◌else◌}
+-- The pieces that the verdicts pick, as places, and what installing them leaves in list and records.
+use Rattle.std.specs.Prelude.{Option, Some, None, ℕ, zero, suc, ◌+◌, ◌*◌, ◌<◌, ◌≡◌, Bool, false, ◌&&◌, ◌||◌, List, [], ◌∷◌, ◌++◌, ltb, eqb, length, get_or, set, if◌then◌else◌}
 use Rattle.model.specs.Lists.{sum_below}
 use Rattle.model.specs.Entry.{P, CC, CP}
 use Rattle.model.specs.Account.{Record}
 use Rattle.model.specs.Section.{item_at}
 use Rattle.lot.specs.View.{record_at}
+use Rattle.verdicts.specs.declared.Verdict.{Verdict}
+use Rattle.verdicts.specs.declared.Verdict.TheVariants.{Install, Flag}
+use Rattle.install.specs.declared.Sort.{Sort}
+use Rattle.install.specs.declared.Sort.TheVariants.{Committed, Flagged}
 use Rattle.install.specs.Writes.{Changed, writes_before}
 
--- ---- which places are pieces of stream s: those of CC and CP that install, or else (flagging) those of P that flag
+-- ---- which places are pieces of stream s: those of CC and CP that install, or those of P that are flagged
 
-unfoldable pub is_piece : List ℕ → List ℕ → ℕ → Bool → ℕ → Bool
-is_piece numbers h s flagging i =
-    let x = item_at h i in
-    let number = get_or numbers i 0 in
-    eqb x.stream s && (if flagging then eqb x.entry.kind P && eqb number 2 else (eqb x.entry.kind CC || eqb x.entry.kind CP) && eqb number 1)
+-- the verdict on an entry of this kind makes it a piece of this sort
+abbrev pub picks : Sort → Option Verdict → ℕ → Bool
+picks Committed (Some Install) kind = eqb kind CC || eqb kind CP
+picks Flagged (Some Flag) kind = eqb kind P
+picks _ _ kind = false
 
-abbrev pub piece_at : List ℕ → List ℕ → ℕ → Bool → ℕ → List ℕ
-piece_at numbers h s flagging i = if is_piece numbers h s flagging i then i ∷ [] else []
+unfoldable pub is_piece : List (Option Verdict) → List ℕ → ℕ → Sort → ℕ → Bool
+is_piece verdicts h s sort i = let x = item_at h i in eqb x.stream s && picks sort (get_or verdicts i None) x.entry.kind
+
+abbrev pub piece_at : List (Option Verdict) → List ℕ → ℕ → Sort → ℕ → List ℕ
+piece_at verdicts h s sort i = if is_piece verdicts h s sort i then i ∷ [] else []
 
 -- among the first n places, by position
-unfoldable pub pieces_till : List ℕ → List ℕ → ℕ → Bool → ℕ → List ℕ
-pieces_till numbers h s flagging zero = []
-pieces_till numbers h s flagging (suc n) = pieces_till numbers h s flagging n ++ piece_at numbers h s flagging n
+unfoldable pub pieces_till : List (Option Verdict) → List ℕ → ℕ → Sort → ℕ → List ℕ
+pieces_till verdicts h s sort zero = []
+pieces_till verdicts h s sort (suc n) = pieces_till verdicts h s sort n ++ piece_at verdicts h s sort n
 
 -- of a stream: those with CC or CP first, then the flagged ones
-abbrev pub pieces_of : List ℕ → List ℕ → ℕ → ℕ → List ℕ
-pieces_of numbers h n s = pieces_till numbers h s false n ++ pieces_till numbers h s true n
+abbrev pub pieces_of : List (Option Verdict) → List ℕ → ℕ → ℕ → List ℕ
+pieces_of verdicts h n s = pieces_till verdicts h s Committed n ++ pieces_till verdicts h s Flagged n
 
 -- ---- what they leave
 
@@ -47,15 +54,15 @@ pub record Installed (h is : List ℕ) (s : ℕ) (l l' r r' : List ℕ) (p p' : 
 
 -- ---- of all streams below f
 
-abbrev pub count_of : List ℕ → List ℕ → ℕ → ℕ → ℕ
-count_of numbers h n f = sum_below (λ s. length (pieces_of numbers h n s)) f
+abbrev pub count_of : List (Option Verdict) → List ℕ → ℕ → ℕ → ℕ
+count_of verdicts h n f = sum_below (λ s. length (pieces_of verdicts h n s)) f
 
-unfoldable pub with_streams : List ℕ → List ℕ → ℕ → List ℕ → ℕ → List ℕ
-with_streams numbers h n l zero = l
-with_streams numbers h n l (suc f) = with_pieces h (with_streams numbers h n l f) (count_of numbers h n f) f (pieces_of numbers h n f)
+unfoldable pub with_streams : List (Option Verdict) → List ℕ → ℕ → List ℕ → ℕ → List ℕ
+with_streams verdicts h n l zero = l
+with_streams verdicts h n l (suc f) = with_pieces h (with_streams verdicts h n l f) (count_of verdicts h n f) f (pieces_of verdicts h n f)
 
-pub record InstalledAll (numbers h : List ℕ) (n f : ℕ) (l l' r r' : List ℕ) (p : ℕ) : Type 0 where
-  pub counted : p ≡ count_of numbers h n f
-  pub listed : l' ≡ with_streams numbers h n l f
+pub record InstalledAll (verdicts : List (Option Verdict)) (h : List ℕ) (n f : ℕ) (l l' r r' : List ℕ) (p : ℕ) : Type 0 where
+  pub counted : p ≡ count_of verdicts h n f
+  pub listed : l' ≡ with_streams verdicts h n l f
   pub size : length r' ≡ length r
-  pub records : (j k : ℕ) → k < 128 → record_at r' j k ≡ (if ltb j f then after_pieces h (pieces_of numbers h n j) k (record_at r j k) else record_at r j k)
+  pub records : (j k : ℕ) → k < 128 → record_at r' j k ≡ (if ltb j f then after_pieces h (pieces_of verdicts h n j) k (record_at r j k) else record_at r j k)

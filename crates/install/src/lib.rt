@@ -1,231 +1,264 @@
 // Installing the pieces of an epoch: each is listed, and its writes are applied to the records, in the order of docs/RULES.md.
-// It stands on `verdicts`, which says what is installed, on `lookback` and `held`, and on `lot` for the records.
+// It stands on `verdicts`, which says what is installed, on `lookback`, and on `lot` for the records.
 #![tactic(auto)]
 
 ghost use Rattle.std.specs.Prelude.{◌≡◌, ◌+◌, ◌*◌, ◌≤◌, ◌<◌, length, set};
 ghost use Rattle.model.specs.Section.{item_at};
-ghost use Rattle.lookback.specs.Last.{Lasts};
+ghost use Rattle.lookback.specs.Last.{Lasts, Lasts-prop};
 ghost use Rattle.verdicts.specs.Orderly.{Orderly};
 ghost use Rattle.install.specs.Writes.{Changed, write_of, writes_before};
-ghost use Rattle.install.specs.Order.{Nexts, First, StreamsBelow, Sections, Tables};
-ghost use Rattle.install.specs.Pieces.{is_piece, piece_at, pieces_till, pieces_of, Installed, count_of, InstalledAll};
+ghost use Rattle.install.specs.Order.{Nexts, First, StreamsBelow, Nexts-prop};
 
+use lookback::Section;
 use model::Entry;
+use verdicts::Verdict;
 
-// ---- one piece's writes
+// ---- what is installed
 
-// Applies the write of place i, if it is one.
-fn write_place(records: &mut [u8], held: &[u8], n: usize, i: usize)
-    requires { (length records.old ≡ 5120) × (i < n) × (n * 20 ≤ length held.now) × Orderly held.now n }
-    ensures { Changed records.old records.new (item_at held.now i).stream (write_of (item_at held.now i)) }
+// For each place the next one of its stream and transaction.
+fn nexts(held: Section<'_>, last: &[Option<u8>; 256]) -> [Option<u8>; 256]
+    requires { Lasts last.now held.bytes.now held.count }
+    ensures { Nexts result held.entry.bytes.now held.entry.count }
 {
-    let kind = lookback::kind_at(held, i);
-    if Entry::DELETE < kind {
-        return;
-    }
-    let fragment = lookback::stream_at(held, i) as usize;
-    let key = held::argument_at(held, i) as usize;
-    if kind == Entry::PUT {
-        lot::put_record(records, fragment, key, held::value_at(held, i));
-        return;
-    }
-    lot::delete_record(records, fragment, key);
-}
-
-// For each place, at one more than it, one more than the next place of its stream and transaction.
-fn nexts(held: &[u8], last: &[u16; 256], n: usize) -> [u16; 257]
-    requires { (n ≤ 256) × (n * 20 ≤ length held.now) × Lasts last.now held.now n }
-    ensures { Nexts result held.now n }
-{
-    let mut next = [0u16; 257];
-    let mut i: usize = 0;
-    while i < n {
-        let before = lookback::wide16(last[i]);
-        next[before] = (i + 1) as u16;
-        i += 1;
+    let mut next = [None; 256];
+    for i in 0..held.count {
+        if let Some(before) = last[i] {
+            next[usize::from(before)] = Some(i as u8);
+        }
     }
     next
 }
 
-// The first place of the stream and transaction of place i.
-fn first_of(held: &[u8], last: &[u16; 256], n: usize, i: usize) -> usize
-    requires { (n ≤ 256) × (i < n) × (n * 20 ≤ length held.now) × Lasts last.now held.now n }
-    ensures { First held.now i result }
-{
-    let mut first = i;
-    let mut before = lookback::wide16(last[first]);
-    while before != 0 {
-        first = before - 1;
-        before = lookback::wide16(last[first]);
-    }
-    first
+// `last` and `verdicts` are lent by those who made them, so that no array of structs holds all three by place.
+
+// The places as they stood when the call began, with a verdict on each, and chained by transaction in both directions.
+#[derive(Clone, Copy)]
+pub struct Snapshot<'a> {
+    pub held: Section<'a>,
+    last: &'a [Option<u8>; 256],
+    next: [Option<u8>; 256],
+    pub verdicts: &'a [Option<Verdict>; 256],
+    pub ghost orderly: { Orderly held.bytes.now held.count },
+    ghost lasts: { Lasts last.now held.bytes.now held.count } by { Lasts-prop last.now held.bytes.now held.count },
+    ghost nexts: { Nexts next held.bytes.now held.count } by { Nexts-prop next held.bytes.now held.count },
 }
 
-// Applies the writes of place i's transaction that stand before it in its stream, in their order.
-fn write_transaction(
-    records: &mut [u8],
-    held: &[u8],
-    last: &[u16; 256],
-    next: &[u16; 257],
-    n: usize,
-    i: usize,
-)
-    requires { (length records.old ≡ 5120) × (n ≤ 256) × (i < n) × (n * 20 ≤ length held.now) × Orderly held.now n × Lasts last.now held.now n × Nexts next.now held.now n }
-    ensures { Changed records.old records.new (item_at held.now i).stream (writes_before held.now i) }
-{
-    let mut at = first_of(held, last, n, i);
-    while at != i {
-        write_place(records, held, n, at);
-        at = lookback::wide16(next[at + 1]) - 1;
-    }
-}
+impl<'a> Snapshot<'a> {
+    ghost use Rattle.install.specs.Pieces.{count_of, InstalledAll};
 
-// ---- the places of a stream
-
-// Where they end, those of the streams before it being the first `start`.
-fn stream_end(held: &[u8], n: usize, fragment: u8, start: usize) -> usize
-    requires { (n * 20 ≤ length held.now) × Orderly held.now n × StreamsBelow held.now n fragment start }
-    ensures { StreamsBelow held.now n (fragment + 1) result }
-{
-    let mut end = start;
-    while end < n {
-        if lookback::stream_at(held, end) != fragment {
-            return end;
+    pub fn new(
+        held: Section<'a>,
+        last: &'a [Option<u8>; 256],
+        verdicts: &'a [Option<Verdict>; 256],
+    ) -> Snapshot<'a>
+        requires { Orderly held.bytes.now held.count × Lasts last.now held.bytes.now held.count }
+        ensures { (result.held ≡ held.entry) × (result.verdicts.now ≡ verdicts.now) }
+    {
+        Snapshot {
+            held,
+            last,
+            next: nexts(held, last),
+            verdicts,
         }
-        end += 1;
     }
-    end
+
+    // The first place of the stream and transaction of place i.
+    fn first_of(&self, i: usize) -> usize
+        requires { i < self.now.held.count }
+        ensures { First self.now.held.bytes.now i result }
+    {
+        let mut first = i;
+        while let Some(before) = self.last[first] {
+            first = usize::from(before);
+        }
+        first
+    }
+
+    // Applies the write of place i, if it is one.
+    fn write_place(&self, records: &mut [u8], i: usize)
+        requires { (length records.old ≡ 5120) × (i < self.now.held.count) }
+        ensures { Changed records.old records.new (item_at self.now.held.bytes.now i).stream (write_of (item_at self.now.held.bytes.now i)) }
+    {
+        let kind = self.held.kind(i);
+        if Entry::DELETE < kind {
+            return;
+        }
+        let fragment = usize::from(self.held.stream(i));
+        let key = usize::from(self.held.argument(i));
+        if kind == Entry::PUT {
+            lot::put_record(records, fragment, key, self.held.value(i));
+        } else {
+            lot::delete_record(records, fragment, key);
+        }
+    }
+
+    // Applies the writes of place i's transaction that stand before it in its stream, in their order.
+    fn write_transaction(&self, records: &mut [u8], i: usize)
+        requires { (length records.old ≡ 5120) × (i < self.now.held.count) }
+        ensures { Changed records.old records.new (item_at self.now.held.bytes.now i).stream (writes_before self.now.held.bytes.now i) }
+    {
+        // A walk along the chain, which ends at place i: there is nothing to count.
+        let mut at = self.first_of(i);
+        while at != i {
+            self.write_place(records, at);
+            at = usize::from(self.next[at].unwrap());
+        }
+    }
+
+    // Where the places of a stream end, those of the streams before it being the first `start`.
+    fn stream_end(&self, fragment: u8, start: usize) -> usize
+        requires { StreamsBelow self.now.held.bytes.now self.now.held.count fragment start }
+        ensures { StreamsBelow self.now.held.bytes.now self.now.held.count (fragment + 1) result }
+    {
+        for i in start..self.held.count {
+            if self.held.stream(i) != fragment {
+                return i;
+            }
+        }
+        self.held.count
+    }
+
+    // The places of a stream, which begin at `start`.
+    fn stream<'s>(&'s self, fragment: u8, start: usize) -> Stream<'s, 'a>
+        requires { StreamsBelow self.now.held.bytes.now self.now.held.count fragment start }
+        ensures { (result.snapshot.now ≡ self.now) × (result.fragment ≡ fragment) }
+    {
+        Stream {
+            snapshot: self,
+            fragment,
+            start,
+            end: self.stream_end(fragment, start),
+        }
+    }
+
+    // Installs the pieces of all streams, stream 0 first, and answers how many there are.
+    pub fn install_all(&self, records: &mut [u8], list: &mut [u32], fragments: u8) -> usize
+        requires records { length records.old ≡ 5120 }
+        requires list { 512 ≤ length list.old }
+        requires few { count_of self.now.verdicts.now self.now.held.bytes.now self.now.held.count fragments ≤ 256 }
+        ensures { InstalledAll self.now.verdicts.now self.now.held.bytes.now self.now.held.count fragments list.old list.new records.old records.new result }
+    {
+        let mut output = Output {
+            records,
+            list,
+            pieces: 0,
+        };
+        let mut start = 0;
+        for fragment in 0..fragments {
+            let stream = self.stream(fragment, start);
+            stream.install(&mut output);
+            start = stream.end;
+        }
+        output.pieces
+    }
 }
 
-// ---- pieces
+// ---- what is written
 
-// Place i is a piece of the stream: a CC or CP that installs, or (flagging) a P that is flagged.
-fn is_piece(held: &[u8], numbers: &[u8; 256], fragment: u8, flagging: bool, i: usize) -> bool
-    requires { (i < 256) × (i * 20 + 20 ≤ length held.now) }
-    ensures { result ≡ is_piece numbers.now held.now fragment flagging i }
-{
-    if lookback::stream_at(held, i) != fragment {
-        return false;
-    }
-    let kind = lookback::kind_at(held, i);
-    if flagging {
-        return (kind == Entry::P) & (numbers[i] == verdicts::FLAG);
-    }
-    ((kind == Entry::CC) | (kind == Entry::CP)) & (numbers[i] == verdicts::INSTALL)
-}
-
-// Writes the pair of a piece into the list, after so many others.
-fn list_piece(list: &mut [u32], pieces: usize, fragment: u8, transaction: u32)
-    requires { (pieces < 256) × (512 ≤ length list.old) }
-    ensures { list.new ≡ set (set list.old (pieces * 2) fragment) (pieces * 2 + 1) transaction }
-{
-    list[pieces * 2] = fragment as u32;
-    list[pieces * 2 + 1] = transaction;
-}
-
-// Installs place i if it is a piece, and answers how many there are then.
-fn install_at(
-    records: &mut [u8],
-    list: &mut [u32],
-    held: &[u8],
-    last: &[u16; 256],
-    next: &[u16; 257],
-    numbers: &[u8; 256],
-    n: usize,
-    fragment: u8,
-    flagging: bool,
+// What installing writes: the records, and the list, which begins with so many pieces.
+#[derive(Drop)]
+struct Output<'o> {
+    records: &'o mut [u8],
+    list: &'o mut [u32],
     pieces: usize,
-    i: usize,
-) -> usize
-    requires { (i < n) × Tables records.old list.old held.now last.now next.now n × (pieces + length (piece_at numbers.now held.now fragment flagging i) ≤ 256) }
-    ensures { Installed held.now (piece_at numbers.now held.now fragment flagging i) fragment list.old list.new records.old records.new pieces result }
-{
-    if !is_piece(held, numbers, fragment, flagging, i) {
-        return pieces;
-    }
-    list_piece(list, pieces, fragment, lookback::transaction_at(held, i));
-    write_transaction(records, held, last, next, n, i);
-    pieces + 1
 }
 
-// Installs the pieces of a stream of one sort, by position: its places are those from `start` to `end`.
-fn install_sort(
-    records: &mut [u8],
-    list: &mut [u32],
-    held: &[u8],
-    last: &[u16; 256],
-    next: &[u16; 257],
-    numbers: &[u8; 256],
-    n: usize,
+impl<'o> Output<'o> {
+    ghost use Rattle.install.specs.Stream.{Same};
+
+    // Lists a piece after the others.
+    fn list_piece(&mut self, fragment: u8, transaction: u32)
+        requires { (self.old.pieces < 256) × (512 ≤ length self.old.list.now) }
+        ensures same { Same self.old self.new }
+        ensures listed { self.new.list.now ≡ set (set self.old.list.now (self.old.pieces * 2) fragment) (self.old.pieces * 2 + 1) transaction }
+        ensures counted { self.new.pieces ≡ self.old.pieces + 1 }
+        ensures records { self.new.records.now ≡ self.old.records.now }
+    {
+        self.list[self.pieces * 2] = u32::from(fragment);
+        self.list[self.pieces * 2 + 1] = transaction;
+        self.pieces += 1;
+    }
+}
+
+// ---- the pieces of a stream
+
+// A piece has a CC or CP that installs, or its P is flagged.
+#[derive(Clone, Copy, PartialEq, Eq, Debug)]
+enum Sort {
+    Committed,
+    Flagged,
+}
+
+impl Sort {
+    ghost use Rattle.install.specs.Pieces.{picks};
+
+    // The verdict on an entry of this kind makes it a piece of this sort.
+    fn picks(self, verdict: Option<Verdict>, kind: u8) -> bool
+        ensures { result ≡ picks self verdict kind }
+    {
+        match (self, verdict) {
+            (Sort::Committed, Some(Verdict::Install)) => kind == Entry::CC || kind == Entry::CP,
+            (Sort::Flagged, Some(Verdict::Flag)) => kind == Entry::P,
+            _ => false,
+        }
+    }
+}
+
+// The places of a stream: those from `start` to `end`.
+#[derive(Clone, Copy)]
+struct Stream<'s, 'a> {
+    snapshot: &'s Snapshot<'a>,
+    fragment: u8,
     start: usize,
     end: usize,
-    fragment: u8,
-    flagging: bool,
-    pieces: usize,
-) -> usize
-    requires { Tables records.old list.old held.now last.now next.now n × (pieces + length (pieces_till numbers.now held.now fragment flagging n) ≤ 256) × StreamsBelow held.now n fragment start × StreamsBelow held.now n (fragment + 1) end }
-    ensures { Installed held.now (pieces_till numbers.now held.now fragment flagging n) fragment list.old list.new records.old records.new pieces result }
-{
-    let mut count = pieces;
-    let mut i = start;
-    while i < end {
-        count = install_at(
-            records, list, held, last, next, numbers, n, fragment, flagging, count, i,
-        );
-        i += 1;
-    }
-    count
+    ghost begins: { StreamsBelow snapshot.now.held.bytes.now snapshot.now.held.count fragment start },
+    ghost ends: { StreamsBelow snapshot.now.held.bytes.now snapshot.now.held.count (fragment + 1) end },
 }
 
-// Installs the pieces of a stream: those with CC or CP first, then the flagged ones.
-fn install_stream(
-    records: &mut [u8],
-    list: &mut [u32],
-    held: &[u8],
-    last: &[u16; 256],
-    next: &[u16; 257],
-    numbers: &[u8; 256],
-    n: usize,
-    start: usize,
-    end: usize,
-    fragment: u8,
-    pieces: usize,
-) -> usize
-    requires { Tables records.old list.old held.now last.now next.now n × (pieces + length (pieces_of numbers.now held.now n fragment) ≤ 256) × StreamsBelow held.now n fragment start × StreamsBelow held.now n (fragment + 1) end }
-    ensures { Installed held.now (pieces_of numbers.now held.now n fragment) fragment list.old list.new records.old records.new pieces result }
-{
-    let committed = install_sort(
-        records, list, held, last, next, numbers, n, start, end, fragment, false, pieces,
-    );
-    install_sort(
-        records, list, held, last, next, numbers, n, start, end, fragment, true, committed,
-    )
-}
+impl<'s, 'a> Stream<'s, 'a> {
+    ghost use Rattle.install.specs.Pieces.{is_piece};
+    ghost use Rattle.install.specs.Stream.{piece_in, sort_in, pieces_in, Room, Same, Installs};
 
-// Installs the pieces of all streams, stream 0 first, and answers how many there are.
-pub fn install_all(
-    records: &mut [u8],
-    list: &mut [u32],
-    held: &[u8],
-    last: &[u16; 256],
-    numbers: &[u8; 256],
-    n: usize,
-    fragments: u8,
-) -> usize
-    requires { Sections records.old list.old held.now last.now n × (count_of numbers.now held.now n fragments ≤ 256) }
-    ensures { InstalledAll numbers.now held.now n fragments list.old list.new records.old records.new result }
-{
-    let next = nexts(held, last, n);
-    let mut count: usize = 0;
-    let mut start: usize = 0;
-    let mut fragment: u8 = 0;
-    while fragment < fragments {
-        let end = stream_end(held, n, fragment, start);
-        count = install_stream(
-            records, list, held, last, &next, numbers, n, start, end, fragment, count,
-        );
-        start = end;
-        fragment += 1;
+    // Place i of the stream is a piece of this sort.
+    fn is_piece(&self, sort: Sort, i: usize) -> bool
+        requires { (self.now.start ≤ i) × (i < self.now.end) }
+        ensures { result ≡ is_piece self.now.snapshot.now.verdicts.now self.now.snapshot.now.held.bytes.now self.now.fragment sort i }
+    {
+        sort.picks(self.snapshot.verdicts[i], self.snapshot.held.kind(i))
     }
-    count
+
+    // Installs place i if it is a piece of this sort.
+    fn install_at(&self, output: &mut Output<'_>, sort: Sort, i: usize)
+        requires within { (self.now.start ≤ i) × (i < self.now.end) }
+        requires room { Room (piece_in self.now sort i) output.old }
+        ensures same { Same output.old output.new }
+        ensures installs { Installs self.now (piece_in self.now sort i) output.old output.new }
+    {
+        if self.is_piece(sort, i) {
+            output.list_piece(self.fragment, self.snapshot.held.transaction(i));
+            self.snapshot.write_transaction(output.records, i);
+        }
+    }
+
+    // Installs the pieces of one sort, by position. Inlined, so that each sort has a loop of its own.
+    #[inline(always)]
+    fn install_sort(&self, output: &mut Output<'_>, sort: Sort)
+        requires { Room (sort_in self.now sort) output.old }
+        ensures same { Same output.old output.new }
+        ensures installs { Installs self.now (sort_in self.now sort) output.old output.new }
+    {
+        for i in self.start..self.end {
+            self.install_at(output, sort, i);
+        }
+    }
+
+    // Installs the pieces: those with CC or CP first, then the flagged ones.
+    fn install(&self, output: &mut Output<'_>)
+        requires { Room (pieces_in self.now) output.old }
+        ensures same { Same output.old output.new }
+        ensures installs { Installs self.now (pieces_in self.now) output.old output.new }
+    {
+        self.install_sort(output, Sort::Committed);
+        self.install_sort(output, Sort::Flagged);
+    }
 }

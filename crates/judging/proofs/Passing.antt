@@ -1,8 +1,8 @@
 -- Data pass the tests of judging exactly if the model's load accepts them, and then the trailer has the account's numbers. Assumes nothing.
+use Rattle.std.specs.Prelude.{Option, Some, None}
 use Prim.Native.Nat.{ℕ, ◌+◌, ◌*◌, ◌-◌, ◌<◌, ◌≤◌}
 use mathlib.Core.Path.{◌≡◌, refl, sym, ap, ◌∙◌}
 use mathlib.Core.Bool.{Bool, true, false, ◌&&◌, and-true, and_assoc}
-use mathlib.Core.Option.{Option, some, none}
 use mathlib.Core.List.{List, ◌++◌, append_assoc}
 use native.Mathlib.Omega.{arith}
 use lib.ListN.{length, get_or, take, drop, length-append, length-drop, take-append-drop}
@@ -22,7 +22,6 @@ use Rattle.model.proofs.Image.{loads_exactly, form_account, form_fits_law, well_
 use Rattle.trailer.specs.Trailer.{numbers_of, trailer_bytes, signed, image_length, trailer_fits}
 use Rattle.trailer.specs.declared.Trailer.{Trailer}
 use Rattle.judging.specs.Judging.{trailer_of, judged_as, judged_of, record_fits, sections_fit}
-use Rattle.judging.specs.declared.Judged.TheVariants as judged
 use Rattle.judging.proofs.Parts.{Bytes, bytes_drop, streams_plain, records_plain, held_plain}
 use Rattle.judging.proofs.Trailers.{form_numbers, trailer_is, numbers_back, trailer_signed, trailer_zeros, bytes_back}
 use Rattle.judging.proofs.Sections.{account_fits_law, few_held, shown_by, Plain, sections_plain, sections_form, form_sections, sections_bytes, numbers_shown}
@@ -48,12 +47,14 @@ account_numbers x w =
     let a = account x in
     let e = form_account x w in
     λ i. record {
-      number = x.number;
-      fragments = length x.streams;
-      keys = x.keys;
+      account = record {
+        number = x.number;
+        fragments = length x.streams;
+        keys = x.keys;
+        held = (sym (held_length a) ∙ ap (λ y. length y.held) e) i;
+        closed = x.closed;
+      };
       records = length (e i).records;
-      held = (sym (held_length a) ∙ ap (λ y. length y.held) e) i;
-      closed = x.closed;
       length = length (bytes (e i));
     }
 
@@ -67,7 +68,7 @@ module _ (l : List ℕ) (bl : Bytes l) (p : Passes l) where
   abbrev b : List ℕ
   b = last_image l
 
-  pub agrees : t.length ≡ image_length t.fragments t.records t.held
+  pub agrees : t.length ≡ image_length t.account.fragments t.records t.account.held
   unfolding trailer_fits
   agrees = eqb-true _ _ (nth _ p.trailer 4)
 
@@ -94,7 +95,7 @@ module _ (l : List ℕ) (bl : Bytes l) (p : Passes l) where
   unfolding last_of
   bytes_are = sections_bytes t b (bytes_drop (length l - t.length) l bl) agrees long_image ends_with (sections_plain t b p.sections)
 
-  pub loaded : load l ≡ some (account (shown_by t b))
+  pub loaded : load l ≡ Some (account (shown_by t b))
   unfolding image last_of
   loaded =
       let x = shown_by t b in
@@ -105,9 +106,9 @@ module _ (l : List ℕ) (bl : Bytes l) (p : Passes l) where
   numbers_are : trailer_of (account (shown_by t b)) ≡ t
   numbers_are = account_numbers (shown_by t b) form_passes ∙ ap (λ n. form_numbers (shown_by t b) n) (ap length bytes_are ∙ long_image) ∙ numbers_shown t b
 
-  pub passed : judged.Accepted t ≡ judged_of l
+  pub passed : Some t ≡ judged_of l
   unfolding judged_of
-  passed = rw loaded (ap judged.Accepted (sym numbers_are))
+  passed = rw loaded (ap Some (sym numbers_are))
 
 -- ---- what is accepted passes
 
@@ -140,10 +141,10 @@ module _ (x : Form) (w : form_fits x ≡ true) where
   unfolding trailer_fits every
   trailer_passes n h =
       let z = trailer_zeros numbers in
-      let e : whole ≡ image_length numbers.fragments numbers.records numbers.held = omega (arith, length_bytes x, length_form x) in
-      rw (z.0, z.1, numbers_back numbers, account_fits_law x w, few_held x w, eq-eqb whole (image_length numbers.fragments numbers.records numbers.held) e, le-leb whole n h)
+      let e : whole ≡ image_length numbers.account.fragments numbers.records numbers.account.held = omega (arith, length_bytes x, length_form x) in
+      rw (z.0, z.1, numbers_back numbers, account_fits_law x w, few_held x w, eq-eqb whole (image_length numbers.account.fragments numbers.records numbers.account.held) e, le-leb whole n h)
 
-must_pass : (l : List ℕ) (a : Account) → load l ≡ some a → Passes l
+must_pass : (l : List ℕ) (a : Account) → load l ≡ Some a → Passes l
 unfolding image
 must_pass l a e =
     let g = (loads_exactly l a).0 e in
@@ -163,13 +164,13 @@ must_pass l a e =
 true_or_false : {x : Bool} → x ≡ true → x ≡ false → ⊥
 true_or_false p q = let z : ◌≡◌ {A = ℕ} 0 1 = no_way (sym q ∙ p) in omega arith
 
-refused : (l : List ℕ) → (Passes l → ⊥) → judged.NotAccepted ≡ judged_of l
+refused : (l : List ℕ) → (Passes l → ⊥) → None ≡ judged_of l
 unfolding judged_of
 refused l no-pass = go (load l) refl
   where
-    go : (o : Option Account) → load l ≡ o → judged.NotAccepted ≡ judged_as o
-    go none e = refl
-    go (some a) e = absurd (no-pass (must_pass l a e))
+    go : (o : Option Account) → load l ≡ o → None ≡ judged_as o
+    go None e = refl
+    go (Some a) e = absurd (no-pass (must_pass l a e))
 
 -- ---- a law for each answer; the parts are lent from an index to the end
 
@@ -180,13 +181,13 @@ pub part_from_law : (l : List ℕ) (a : ℕ) → part_from l a ≡ drop a l
 part_from_law l a = take_all (length l - a) (drop a l) (omega (arith, length-drop a l))
 
 pub sections_law : (b : List ℕ) (t : Trailer) (x y z : Bool)
-    → x ≡ all_below (stream_fits t.closed b) t.fragments
-    → y ≡ all_below (record_fits t.fragments t.keys (part_from b (t.fragments * 8))) t.records
-    → z ≡ section_fits t.keys t.closed (parse t.fragments 8 counters_of b) t.held (part_from b (t.fragments * 8 + t.records * 8))
+    → x ≡ all_below (stream_fits t.account.closed b) t.account.fragments
+    → y ≡ all_below (record_fits t.account.fragments t.account.keys (part_from b (t.account.fragments * 8))) t.records
+    → z ≡ section_fits t.account.keys t.account.closed (parse t.account.fragments 8 counters_of b) t.account.held (part_from b (t.account.fragments * 8 + t.records * 8))
     → ((x && y) && z) ≡ sections_fit t b
 unfolding sections_fit every
 sections_law b t x y z p q r =
-    rw (p, q, r, part_from_law b (t.fragments * 8), part_from_law b (t.fragments * 8 + t.records * 8), ← drop-drop (t.records * 8) (t.fragments * 8) b) (simp (and_assoc, and-true))
+    rw (p, q, r, part_from_law b (t.account.fragments * 8), part_from_law b (t.account.fragments * 8 + t.records * 8), ← drop-drop (t.records * 8) (t.account.fragments * 8) b) (simp (and_assoc, and-true))
 
 module _ (l : List ℕ) where
   abbrev pub last_part : List ℕ
@@ -196,45 +197,45 @@ module _ (l : List ℕ) where
   unfolding last_of
   last_part_law n = part_from_law l (length l - n)
 
-  pub too_short : length l < 24 → judged.NotAccepted ≡ judged_of l
+  pub too_short : length l < 24 → None ≡ judged_of l
   too_short h = refused l (λ p. omega (arith, p.long))
 
-  pub not_signed : signed last_part ≡ false → judged.NotAccepted ≡ judged_of l
+  pub not_signed : signed last_part ≡ false → None ≡ judged_of l
   not_signed e = refused l (λ p. true_or_false p.is_signed (rw (last_part_law 24) at e))
 
-  pub trailer_unfit : trailer_fits (length l) last_part ≡ false → judged.NotAccepted ≡ judged_of l
+  pub trailer_unfit : trailer_fits (length l) last_part ≡ false → None ≡ judged_of l
   trailer_unfit e = refused l (λ p. true_or_false p.trailer (rw (last_part_law 24) at e))
 
   module _ (t : Trailer) (is : t ≡ numbers_of last_part) where
     are : t ≡ last_numbers l
     are = is ∙ ap numbers_of (last_part_law 24)
 
-    pub limits : trailer_fits (length l) last_part ≡ true → (t.length ≤ length l) × (length (part_from l (length l - t.length)) ≡ image_length t.fragments t.records t.held) × (t.held ≤ 256)
+    pub limits : trailer_fits (length l) last_part ≡ true → (t.length ≤ length l) × (length (part_from l (length l - t.length)) ≡ image_length t.account.fragments t.records t.account.held) × (t.account.held ≤ 256)
     unfolding trailer_fits
     limits w =
         let n = nth _ w in
         rw is
         (let v = numbers_of last_part in
         let h = leb-true v.length (length l) (n 5) in
-        let e = eqb-true v.length (image_length v.fragments v.records v.held) (n 4) in
-        (h, rw (part_from_law l (length l - v.length), length-drop (length l - v.length) l) (omega arith), leb-true v.held 256 (n 3)))
+        let e = eqb-true v.length (image_length v.account.fragments v.records v.account.held) (n 4) in
+        (h, rw (part_from_law l (length l - v.length), length-drop (length l - v.length) l) (omega arith), leb-true v.account.held 256 (n 3)))
 
-    pub sections_unfit : sections_fit t (part_from l (length l - t.length)) ≡ false → judged.NotAccepted ≡ judged_of l
+    pub sections_unfit : sections_fit t (part_from l (length l - t.length)) ≡ false → None ≡ judged_of l
     sections_unfit e = refused l (λ p. true_or_false p.sections (rw (last_part_law t.length, are) at e))
 
-    pub all_pass : Bytes l → 24 ≤ length l → signed last_part ≡ true → trailer_fits (length l) last_part ≡ true → sections_fit t (part_from l (length l - t.length)) ≡ true → judged.Accepted t ≡ judged_of l
+    pub all_pass : Bytes l → 24 ≤ length l → signed last_part ≡ true → trailer_fits (length l) last_part ≡ true → sections_fit t (part_from l (length l - t.length)) ≡ true → Some t ≡ judged_of l
     all_pass b h s w v =
         rw are (passed l b (record { long = h; is_signed = rw (last_part_law 24) at s; trailer = rw (last_part_law 24) at w; sections = rw (last_part_law t.length, are) at v }))
 
 -- ---- what accepted data are
 
-pub accepted_passes : (l : List ℕ) (t : Trailer) → judged_of l ≡ judged.Accepted t → Passes l
+pub accepted_passes : (l : List ℕ) (t : Trailer) → judged_of l ≡ Some t → Passes l
 unfolding judged_of
 accepted_passes l t e = go (load l) refl e
   where
-    go : (o : Option Account) → load l ≡ o → judged_as o ≡ judged.Accepted t → Passes l
-    go none q e = no_way cc
-    go (some a) q e = must_pass l a q
+    go : (o : Option Account) → load l ≡ o → judged_as o ≡ Some t → Passes l
+    go None q e = no_way cc
+    go (Some a) q e = must_pass l a q
 
-pub accepted_numbers : (l : List ℕ) (t : Trailer) → Bytes l → judged_of l ≡ judged.Accepted t → t ≡ last_numbers l
+pub accepted_numbers : (l : List ℕ) (t : Trailer) → Bytes l → judged_of l ≡ Some t → t ≡ last_numbers l
 accepted_numbers l t b e = let p = passed l b (accepted_passes l t e) in cc

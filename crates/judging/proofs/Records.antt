@@ -34,13 +34,6 @@ module _ (s : List ℕ) (i : ℕ) where
   unfolding present_of
   value_at = number32_drop (i * 8) s 4
 
-  pub place_at : (k : ℕ) → k ≡ number16 s (i * 8 + 2) → 128 * get_or s (i * 8) 0 + k ≡ place (present_at s i)
-  place_at k e = rw (e, fragment_at_law, key_at)
-
-  pub record_test : (f k key : ℕ) (b : Bool) → key ≡ number16 s (i * 8 + 2) → b ≡ in_order s i → (((plain_record s i && ltb (get_or s (i * 8) 0) f) && ltb key k) && b) ≡ record_fits f k s i
-  unfolding record_fits every
-  record_test f k key b e o = rw (e, o, ← fragment_at_law, ← key_at) (simp (and_assoc, and-true))
-
 -- the least place for a record behind these, where least is that for the first
 after : ℕ → List Present → ℕ
 after least [] = least

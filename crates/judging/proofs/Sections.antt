@@ -62,34 +62,34 @@ module _ (c n : ℕ) (b : List ℕ) where
 
 module _ (t : Trailer) (b : List ℕ) where
   abbrev records : List ℕ
-  records = drop (t.fragments * 8) b
+  records = drop (t.account.fragments * 8) b
 
   abbrev places : List ℕ
   places = drop (t.records * 8) records
 
   -- what the image shows by these numbers
   abbrev pub shown_by : Form
-  shown_by = record { number = t.number; keys = t.keys; closed = t.closed; streams = parse t.fragments 8 counters_of b; records = parse t.records 8 present_of records; held = parse t.held 20 item_of places }
+  shown_by = record { number = t.account.number; keys = t.account.keys; closed = t.account.closed; streams = parse t.account.fragments 8 counters_of b; records = parse t.records 8 present_of records; held = parse t.account.held 20 item_of places }
 
   pub record Plain : Type 0 where
-    pub of_streams : (i : ℕ) → i < t.fragments → number16 b (i * 8 + 2) ≡ 0
+    pub of_streams : (i : ℕ) → i < t.account.fragments → number16 b (i * 8 + 2) ≡ 0
     pub of_records : (i : ℕ) → i < t.records → get_or records (i * 8 + 1) 0 ≡ 0
-    pub of_places : plain t.held places ≡ true
+    pub of_places : plain t.account.held places ≡ true
 
   module _ (w : sections_fit t b ≡ true) where
-    streams_pass : (i : ℕ) → i < t.fragments → stream_fits t.closed b i ≡ true
+    streams_pass : (i : ℕ) → i < t.account.fragments → stream_fits t.account.closed b i ≡ true
     unfolding sections_fit
-    streams_pass = below_in (stream_fits t.closed b) t.fragments (nth _ w 0)
+    streams_pass = below_in (stream_fits t.account.closed b) t.account.fragments (nth _ w 0)
 
-    records_pass : (all_below (plain_record records) t.records && records_fit t.fragments t.keys 0 shown_by.records) ≡ true
+    records_pass : (all_below (plain_record records) t.records && records_fit t.account.fragments t.account.keys 0 shown_by.records) ≡ true
     unfolding sections_fit
-    records_pass = sym (records_split t.fragments t.keys records t.records) ∙ nth _ w 1
+    records_pass = sym (records_split t.account.fragments t.account.keys records t.records) ∙ nth _ w 1
 
-    held_pass : (plain t.held places && held_fits t.keys t.closed shown_by.streams [] shown_by.held) ≡ true
+    held_pass : (plain t.account.held places && held_fits t.account.keys t.account.closed shown_by.streams [] shown_by.held) ≡ true
     unfolding sections_fit section_fits
     held_pass = nth _ w 2
 
-    epochs_pass : (i : ℕ) → i < t.fragments → ltb t.closed (number32 b (i * 8 + 4)) ≡ true
+    epochs_pass : (i : ℕ) → i < t.account.fragments → ltb t.account.closed (number32 b (i * 8 + 4)) ≡ true
     unfolding stream_fits
     epochs_pass i h = nth _ (streams_pass i h) 1
 
@@ -101,31 +101,33 @@ module _ (t : Trailer) (b : List ℕ) where
       of_places = and_l _ _ held_pass;
     }
 
-    pub sections_form : account_fits t.number t.fragments t.keys ≡ true → leb t.held 256 ≡ true → form_fits shown_by ≡ true
+    pub sections_form : account_fits t.account.number t.account.fragments t.account.keys ≡ true → leb t.account.held 256 ≡ true → form_fits shown_by ≡ true
     unfolding form_fits every
     sections_form a h =
-        let o : all (λ s. ltb t.closed s.epoch) shown_by.streams ≡ true = epochs_of t.closed t.fragments b epochs_pass in
-        rw (length_parse 8 counters_of t.fragments b, length_parse 20 item_of t.held places, a, h, o, and_r (all_below (plain_record records) t.records) _ records_pass, and_r (plain t.held places) _ held_pass)
+        let o : all (λ s. ltb t.account.closed s.epoch) shown_by.streams ≡ true = epochs_of t.account.closed t.account.fragments b epochs_pass in
+        rw (length_parse 8 counters_of t.account.fragments b, length_parse 20 item_of t.account.held places, a, h, o, and_r (all_below (plain_record records) t.records) _ records_pass, and_r (plain t.account.held places) _ held_pass)
 
   pub form_sections : Plain → form_fits shown_by ≡ true → sections_fit t b ≡ true
   unfolding sections_fit section_fits stream_fits every
   form_sections p w =
-      let s : all_below (stream_fits t.closed b) t.fragments ≡ true = below_of (stream_fits t.closed b) t.fragments (λ i h. rw (eq-eqb (number16 b (i * 8 + 2)) 0 (p.of_streams i h), epochs_in t.closed t.fragments b (epochs_fit shown_by w) i h)) in
+      let s : all_below (stream_fits t.account.closed b) t.account.fragments ≡ true = below_of (stream_fits t.account.closed b) t.account.fragments (λ i h. rw (eq-eqb (number16 b (i * 8 + 2)) 0 (p.of_streams i h), epochs_in t.account.closed t.account.fragments b (epochs_fit shown_by w) i h)) in
       let z : all_below (plain_record records) t.records ≡ true = below_of (plain_record records) t.records (λ i h. eq-eqb (get_or records (i * 8 + 1) 0) 0 (p.of_records i h)) in
-      let q : records_fit t.fragments t.keys 0 shown_by.records ≡ true = rw (length_parse 8 counters_of t.fragments b) at (records_fit_law shown_by w) in
-      let r : all_below (record_fits t.fragments t.keys records) t.records ≡ true = records_split t.fragments t.keys records t.records ∙ rw (z, q) in
+      let q : records_fit t.account.fragments t.account.keys 0 shown_by.records ≡ true = rw (length_parse 8 counters_of t.account.fragments b) at (records_fit_law shown_by w) in
+      let r : all_below (record_fits t.account.fragments t.account.keys records) t.records ≡ true = records_split t.account.fragments t.account.keys records t.records ∙ rw (z, q) in
       rw (s, r, p.of_places, held_fit shown_by w)
 
   -- ---- the bytes
 
   pub numbers_shown : form_numbers shown_by t.length ≡ t
   numbers_shown = λ i. record {
-    number = t.number;
-    fragments = length_parse 8 counters_of t.fragments b i;
-    keys = t.keys;
+    account = record {
+      number = t.account.number;
+      fragments = length_parse 8 counters_of t.account.fragments b i;
+      keys = t.account.keys;
+      held = length_parse 20 item_of t.account.held places i;
+      closed = t.account.closed;
+    };
     records = length_parse 8 present_of t.records records i;
-    held = length_parse 20 item_of t.held places i;
-    closed = t.closed;
     length = t.length;
   }
 
@@ -137,11 +139,11 @@ module _ (t : Trailer) (b : List ℕ) where
       let v : length (take (x + (y + z)) b) ≡ x + (y + z) = length-take-le (x + (y + z)) b (omega arith) in
       rw (← take-add y z (drop x b), ← take-add x (y + z) b, v, k, w, m, ← d) (take-append-drop (n - 24) b)
 
-  pub sections_bytes : Bytes b → t.length ≡ image_length t.fragments t.records t.held → length b ≡ t.length → drop (t.length - 24) b ≡ trailer_bytes t → Plain → bytes shown_by ≡ b
+  pub sections_bytes : Bytes b → t.length ≡ image_length t.account.fragments t.records t.account.held → length b ≡ t.length → drop (t.length - 24) b ≡ trailer_bytes t → Plain → bytes shown_by ≡ b
   unfolding bytes body
   sections_bytes bb e lb d p =
-      let l1 : length records ≡ length b - t.fragments * 8 = length-drop (t.fragments * 8) b in
+      let l1 : length records ≡ length b - t.account.fragments * 8 = length-drop (t.account.fragments * 8) b in
       let l2 : length places ≡ length records - t.records * 8 = length-drop (t.records * 8) records in
-      let b1 = bytes_drop (t.fragments * 8) b bb in
-      rw (streams_sound t.fragments b bb (omega arith) p.of_streams, records_sound t.records records b1 (omega arith) p.of_records, held_sound t.held places (bytes_drop (t.records * 8) records b1) (omega arith) p.of_places)
-      (glue (t.fragments * 8) (t.records * 8) (t.held * 20) t.length (trailer_bytes t) (trailer24 shown_by) e lb d (trailer_is shown_by t.length ∙ ap trailer_bytes numbers_shown))
+      let b1 = bytes_drop (t.account.fragments * 8) b bb in
+      rw (streams_sound t.account.fragments b bb (omega arith) p.of_streams, records_sound t.records records b1 (omega arith) p.of_records, held_sound t.account.held places (bytes_drop (t.records * 8) records b1) (omega arith) p.of_places)
+      (glue (t.account.fragments * 8) (t.records * 8) (t.account.held * 20) t.length (trailer_bytes t) (trailer24 shown_by) e lb d (trailer_is shown_by t.length ∙ ap trailer_bytes numbers_shown))

@@ -16,7 +16,11 @@ use Rattle.judging.proofs.Parts.{Bytes, cells, take_cells, sixteen, thirty_two, 
 
 -- the numbers of what an image of n bytes shows
 abbrev pub form_numbers : Form → ℕ → Trailer
-form_numbers x n = record { number = x.number; fragments = length x.streams; keys = x.keys; records = length x.records; held = length x.held; closed = x.closed; length = n }
+form_numbers x n = record {
+  account = record { number = x.number; fragments = length x.streams; keys = x.keys; held = length x.held; closed = x.closed };
+  records = length x.records;
+  length = n;
+}
 
 pub trailer_is : (x : Form) (n : ℕ) → trailer24 x n ≡ trailer_bytes (form_numbers x n)
 unfolding trailer24 trailer_bytes count_bytes bytes16 bytes32
@@ -24,7 +28,11 @@ trailer_is x n = refl
 
 pub numbers_back : (t : Trailer) → numbers_of (trailer_bytes t) ≡ t
 unfolding numbers_of trailer_bytes count_bytes bytes16 bytes32 number16 number32
-numbers_back t = λ i. record { number = two t.number i; fragments = t.fragments; keys = two t.keys i; records = two t.records i; held = two t.held i; closed = four t.closed i; length = four t.length i }
+numbers_back t = λ i. record {
+  account = record { number = two t.account.number i; fragments = t.account.fragments; keys = two t.account.keys i; held = two t.account.held i; closed = four t.account.closed i };
+  records = two t.records i;
+  length = four t.length i;
+}
   where
     two : (v : ℕ) → v % 256 + 256 * (v / 256) ≡ v
     two v = omega arith

@@ -1,33 +1,27 @@
 -- What judging data answers, by the model's load; and the tests of an image's sections that it is made of.
-use Rattle.std.specs.Prelude.{ℕ, zero, suc, ◌+◌, ◌*◌, Bool, true, List, [], ◌∷◌, ltb, eqb, length, get_or, drop}
-use Rattle.std.proofs.Math.Option.{Option, some, none}
+use Rattle.std.specs.Prelude.{ℕ, zero, suc, ◌+◌, ◌*◌, Bool, true, List, [], ◌∷◌, ltb, eqb, length, get_or, drop, Option, Some, None}
 use Rattle.model.specs.Lists.{every}
 use Rattle.model.specs.Account.{Account, held_count}
 use Rattle.model.specs.Image.{Present, form, image}
 use Rattle.model.specs.Decoding.{counters_of, present_of, parse, place, load}
 use Rattle.model.specs.Section.{section_fits}
 use Rattle.lot.specs.View.{stream_fits, all_below}
+use Rattle.lot.specs.Head.{numbers_with}
 use Rattle.trailer.specs.declared.Trailer.{Trailer}
-use Rattle.judging.specs.declared.Judged.{Judged}
-use Rattle.judging.specs.declared.Judged.TheVariants.{NotAccepted, Accepted}
 
 -- the numbers that the trailer of an account's image has
 unfoldable pub trailer_of : Account → Trailer
 trailer_of a = record {
-  number = a.number;
-  fragments = a.fragments;
-  keys = a.keys;
+  account = numbers_with (held_count a) a;
   records = length (form a).records;
-  held = held_count a;
-  closed = a.closed;
   length = length (image a);
 }
 
-abbrev pub judged_as : Option Account → Judged
-judged_as none = NotAccepted
-judged_as (some a) = Accepted (trailer_of a)
+abbrev pub judged_as : Option Account → Option Trailer
+judged_as None = None
+judged_as (Some a) = Some (trailer_of a)
 
-unfoldable pub judged_of : List ℕ → Judged
+unfoldable pub judged_of : List ℕ → Option Trailer
 judged_of given = judged_as (load given)
 
 -- ---- the records of an image, 8 bytes each
@@ -51,10 +45,10 @@ record_fits f k s i = every (plain_record s i ∷ ltb (present_at s i).fragment 
 
 unfoldable pub sections_fit : Trailer → List ℕ → Bool
 sections_fit t b =
-    let records = drop (t.fragments * 8) b in
+    let records = drop (t.account.fragments * 8) b in
     every (
-    all_below (stream_fits t.closed b) t.fragments
-    ∷ all_below (record_fits t.fragments t.keys records) t.records
-    ∷ section_fits t.keys t.closed (parse t.fragments 8 counters_of b) t.held (drop (t.records * 8) records)
+    all_below (stream_fits t.account.closed b) t.account.fragments
+    ∷ all_below (record_fits t.account.fragments t.account.keys records) t.records
+    ∷ section_fits t.account.keys t.account.closed (parse t.account.fragments 8 counters_of b) t.account.held (drop (t.records * 8) records)
     ∷ []
     )

@@ -1,133 +1,148 @@
-// The lines that the program of docs/RULES.md prints, written as text into a lent buffer.
-// specs/Lines.antt has each line, and specs/Text.antt what it means that a text is written.
+// The lines that the program of docs/RULES.md prints, written one after the other into a text of fixed memory.
+// specs/Lines.antt has each line, and specs/Text.antt the decimal text of a number.
 #![tactic(auto)]
 
-ghost use Rattle.std.specs.Prelude.{◌≡◌, [], ◌∷◌, ◌+◌, ◌≤◌, length};
-ghost use Rattle.lines.specs.Text.{ROOM as MOST_ROOM, last_digit, decimal, Wrote};
+ghost use Rattle.std.specs.Prelude.{◌≡◌, ◌==◌, [], ◌∷◌, ◌++◌, ◌+◌, ◌<◌, ◌≤◌, length};
 ghost use Rattle.lines.specs.Lines.{number, last, epoch_line, piece_line, record_line, held_line, entry_line, open_line};
 
-// How many bytes a lent buffer has.
+use arrayvec::ArrayString;
+use itoa::Buffer;
+use std::marker::Model;
+
+// How many bytes a text has room for: more than the longest one of a call.
 pub const ROOM: usize = 80000;
 
-// ---- what lines are made of
-
-fn put_byte(out: &mut [u8; ROOM], at: usize, byte: u8) -> usize
-    requires { at + 1 ≤ MOST_ROOM }
-    ensures { Wrote (byte ∷ []) out.old out.new at result }
-{
-    out[at] = byte;
-    at + 1
+// Bytes that are written one after the other. In a contract it is the list of those that are written.
+#[derive(Drop)]
+pub struct Text {
+    written: ArrayString<ROOM>,
 }
 
-fn put_word(out: &mut [u8; ROOM], at: usize, word: &[u8]) -> usize
-    requires { at + length word.now ≤ MOST_ROOM }
-    ensures { Wrote word.now out.old out.new at result }
-{
-    let mut end = at;
-    let mut i = 0;
-    while i < word.len() {
-        end = put_byte(out, end, word[i]);
-        i += 1;
+impl Model for Text {
+    ghost use Rattle.std.specs.Prelude.{ℕ, List};
+
+    ghost Value = { List ℕ };
+
+    ghost view = { λ t. t.written.bytes };
+}
+
+impl Text {
+    pub fn new() -> Text
+        ensures { result ≡ [] }
+    {
+        Text {
+            written: ArrayString::new(),
+        }
     }
-    end
-}
 
-fn last_digit(n: u64) -> u8
-    ensures { result ≡ last_digit n }
-{
-    48 + (n % 10) as u8
-}
-
-fn put_decimal(out: &mut [u8; ROOM], at: usize, n: u64) -> usize
-    requires { at + length (decimal n) ≤ MOST_ROOM }
-    ensures { Wrote (decimal n) out.old out.new at result }
-{
-    if n < 10 {
-        return put_byte(out, at, last_digit(n));
+    pub fn is_empty(&self) -> bool
+        ensures { result ≡ (length self.now == 0) }
+    {
+        self.written.is_empty()
     }
-    let end = put_decimal(out, at, n / 10);
-    put_byte(out, end, last_digit(n))
-}
 
-// A space and a number.
-fn put_number(out: &mut [u8; ROOM], at: usize, n: u64) -> usize
-    requires { at + 21 ≤ MOST_ROOM }
-    ensures wrote { Wrote (number n) out.old out.new at result }
-    ensures upper_bound { result ≤ at + 21 }
-{
-    let end = put_byte(out, at, 32);
-    put_decimal(out, end, n)
-}
+    pub fn as_bytes(&self) -> &[u8]
+        ensures { result.now ≡ self.now }
+    {
+        self.written.as_str().as_bytes()
+    }
 
-// The last number of a line.
-fn put_last(out: &mut [u8; ROOM], at: usize, n: u64) -> usize
-    requires { at + 22 ≤ MOST_ROOM }
-    ensures wrote { Wrote (last n) out.old out.new at result }
-    ensures upper_bound { result ≤ at + 22 }
-{
-    let end = put_number(out, at, n);
-    put_byte(out, end, 10)
-}
+    pub fn clear(&mut self)
+        ensures { self.new ≡ [] }
+    {
+        self.written.clear();
+    }
 
-// ---- the lines
+    // ---- what lines are made of. `write!(self.written, "held {held}\n")` was tried: it ensures what is written only where it answers Ok, and nothing says that with room it does; a line can't fail
 
-pub fn put_epoch(out: &mut [u8; ROOM], at: usize, epoch: u64, pieces: u64) -> usize
-    requires { at + 70 ≤ MOST_ROOM }
-    ensures wrote { Wrote (epoch_line epoch pieces) out.old out.new at result }
-    ensures upper_bound { result ≤ at + 70 }
-{
-    let after_epoch = put_word(out, at, b"epoch");
-    let after_number = put_number(out, after_epoch, epoch);
-    let after_pieces = put_word(out, after_number, b" pieces");
-    put_last(out, after_pieces, pieces)
-}
+    // A space and a number.
+    fn number(&mut self, n: u64)
+        requires { length self.old + 21 ≤ ROOM }
+        ensures wrote { self.new ≡ self.old ++ number n }
+        ensures upper_bound { length self.new ≤ length self.old + 21 }
+    {
+        self.written.push_str(" ");
+        self.written.push_str(Buffer::new().format(n));
+    }
 
-pub fn put_piece(out: &mut [u8; ROOM], at: usize, fragment: u64, transaction: u64) -> usize
-    requires { at + 70 ≤ MOST_ROOM }
-    ensures wrote { Wrote (piece_line fragment transaction) out.old out.new at result }
-    ensures upper_bound { result ≤ at + 70 }
-{
-    let after_piece = put_word(out, at, b"piece");
-    let after_fragment = put_number(out, after_piece, fragment);
-    put_last(out, after_fragment, transaction)
-}
+    // The last number of a line.
+    fn last(&mut self, n: u64)
+        requires { length self.old + 22 ≤ ROOM }
+        ensures wrote { self.new ≡ self.old ++ last n }
+        ensures upper_bound { length self.new ≤ length self.old + 22 }
+    {
+        self.number(n);
+        self.written.push_str("\n");
+    }
 
-pub fn put_record(out: &mut [u8; ROOM], at: usize, fragment: u64, key: u64, value: u64) -> usize
-    requires { at + 70 ≤ MOST_ROOM }
-    ensures wrote { Wrote (record_line fragment key value) out.old out.new at result }
-    ensures upper_bound { result ≤ at + 70 }
-{
-    let after_record = put_word(out, at, b"record");
-    let after_fragment = put_number(out, after_record, fragment);
-    let after_key = put_number(out, after_fragment, key);
-    put_last(out, after_key, value)
-}
+    // A line takes its words and numbers as it is read. Each asks for the room of the longest: a text that is lent may be full.
 
-pub fn put_held(out: &mut [u8; ROOM], at: usize, held: u64) -> usize
-    requires { at + 70 ≤ MOST_ROOM }
-    ensures wrote { Wrote (held_line held) out.old out.new at result }
-    ensures upper_bound { result ≤ at + 70 }
-{
-    let after_held = put_word(out, at, b"held");
-    put_last(out, after_held, held)
-}
+    // ---- the lines
 
-pub fn put_refused_entry(out: &mut [u8; ROOM], at: usize, index: u64, refusal: u64) -> usize
-    requires { at + 70 ≤ MOST_ROOM }
-    ensures wrote { Wrote (entry_line index refusal) out.old out.new at result }
-    ensures upper_bound { result ≤ at + 70 }
-{
-    let after_entry = put_word(out, at, b"entry");
-    let after_index = put_number(out, after_entry, index);
-    let after_refused = put_word(out, after_index, b" refused");
-    put_last(out, after_refused, refusal)
-}
+    #[tactic(auto, unfolding(crate::specs::Lines::epoch_line))]
+    pub fn epoch(&mut self, epoch: u64, pieces: u64)
+        requires { length self.old + 70 ≤ ROOM }
+        ensures wrote { self.new ≡ self.old ++ epoch_line epoch pieces }
+        ensures upper_bound { length self.new ≤ length self.old + 70 }
+    {
+        self.written.push_str("epoch");
+        self.number(epoch);
+        self.written.push_str(" pieces");
+        self.last(pieces);
+    }
 
-pub fn put_refused_header(out: &mut [u8; ROOM], at: usize, refusal: u64) -> usize
-    requires { at + 70 ≤ MOST_ROOM }
-    ensures wrote { Wrote (open_line refusal) out.old out.new at result }
-    ensures upper_bound { result ≤ at + 70 }
-{
-    let after_refused = put_word(out, at, b"open refused");
-    put_last(out, after_refused, refusal)
+    #[tactic(auto, unfolding(crate::specs::Lines::piece_line))]
+    pub fn piece(&mut self, fragment: u64, transaction: u64)
+        requires { length self.old + 70 ≤ ROOM }
+        ensures wrote { self.new ≡ self.old ++ piece_line fragment transaction }
+        ensures upper_bound { length self.new ≤ length self.old + 70 }
+    {
+        self.written.push_str("piece");
+        self.number(fragment);
+        self.last(transaction);
+    }
+
+    #[tactic(auto, unfolding(crate::specs::Lines::record_line))]
+    pub fn record(&mut self, fragment: u64, key: u64, value: u64)
+        requires { length self.old + 70 ≤ ROOM }
+        ensures wrote { self.new ≡ self.old ++ record_line fragment key value }
+        ensures upper_bound { length self.new ≤ length self.old + 70 }
+    {
+        self.written.push_str("record");
+        self.number(fragment);
+        self.number(key);
+        self.last(value);
+    }
+
+    #[tactic(auto, unfolding(crate::specs::Lines::held_line))]
+    pub fn held(&mut self, held: u64)
+        requires { length self.old + 70 ≤ ROOM }
+        ensures wrote { self.new ≡ self.old ++ held_line held }
+        ensures upper_bound { length self.new ≤ length self.old + 70 }
+    {
+        self.written.push_str("held");
+        self.last(held);
+    }
+
+    #[tactic(auto, unfolding(crate::specs::Lines::entry_line))]
+    pub fn refused_entry(&mut self, index: u64, refusal: u64)
+        requires { length self.old + 70 ≤ ROOM }
+        ensures wrote { self.new ≡ self.old ++ entry_line index refusal }
+        ensures upper_bound { length self.new ≤ length self.old + 70 }
+    {
+        self.written.push_str("entry");
+        self.number(index);
+        self.written.push_str(" refused");
+        self.last(refusal);
+    }
+
+    #[tactic(auto, unfolding(crate::specs::Lines::open_line))]
+    pub fn refused_header(&mut self, refusal: u64)
+        requires { length self.old + 70 ≤ ROOM }
+        ensures wrote { self.new ≡ self.old ++ open_line refusal }
+        ensures upper_bound { length self.new ≤ length self.old + 70 }
+    {
+        self.written.push_str("open refused");
+        self.last(refusal);
+    }
 }

@@ -1,5 +1,5 @@
 -- The last place with a key, and the chains of buckets that find it. Assumes nothing.
-use Prim.Native.Nat.{ℕ, zero, suc, ◌+◌, ◌*◌, ◌-◌, ◌≤◌, ◌<◌}
+use Prim.Native.Nat.{ℕ, zero, suc, ◌+◌, ◌-◌, ◌≤◌, ◌<◌}
 use mathlib.Core.Path.{◌≡◌, refl, sym, ap, ◌∙◌}
 use mathlib.Core.Bool.{Bool, true, false}
 use mathlib.Core.List.{List}
@@ -8,12 +8,12 @@ use native.Mathlib.Omega.{arith}
 use borrow.Author.Tests.{eq-eqb, eqb-true, eqb-false}
 use borrow.Author.Count.{below_more, below_none}
 use lib.Dec.{eqb}
-use lib.ListN.{length, get_or, set, replicate, get_or-replicate, length-set}
+use lib.ListN.{length, get_or, set, replicate, get_or-replicate}
 use lib.Seq.{get_or-set_same, get_or-set_other}
-use Rattle.std.specs.Prelude.{if◌then◌else◌}
+use Rattle.std.specs.Prelude.{Option, None, if◌then◌else◌}
 use Rattle.model.proofs.Tests.{and_l, and_r}
 use Rattle.model.specs.Section.{item_at}
-use Rattle.lookback.specs.Last.{last_with, is_of, Lasts, bucket_of, bucket_at, in_bucket, Chained, Indexed, Ready}
+use Rattle.lookback.specs.Last.{one_past, last_with, is_of, last_before, Lasts, bucket_of, bucket_at, in_bucket, Indexed, Walk}
 
 -- ---- the last number that passes
 
@@ -27,28 +27,25 @@ module _ (p : ℕ → Bool) where
       go true h = omega arith
       go false h = omega arith
 
-  pub last_hit : (m : ℕ) → 0 < m → p (m - 1) ≡ true → last_with p m ≡ m
+  -- the last one below m is the one before m, or the last one below that
+  pub last_turn : (m : ℕ) → 0 < m → last_with p m ≡ (if p (m - 1) then m else last_with p (m - 1))
   unfolding last_with
-  last_hit zero h e = refl
-  last_hit (suc n) h e =
-      let d : suc n - 1 ≡ n = omega arith in
-      let e' : p n ≡ true = rw d at e in
-      rw e'
+  last_turn zero l = absurd (omega arith)
+  last_turn (suc n) l = let z : suc n - 1 ≡ n = omega arith in rw z
 
-  pub last_miss : (m : ℕ) → 0 < m → p (m - 1) ≡ false → last_with p m ≡ last_with p (m - 1)
+  pub last_hit : (i : ℕ) → p i ≡ true → last_with p (suc i) ≡ suc i
   unfolding last_with
-  last_miss zero h e = absurd (omega arith)
-  last_miss (suc n) h e =
-      let d : suc n - 1 ≡ n = omega arith in
-      let e' : p n ≡ false = rw d at e in
-      rw (d, e')
+  last_hit i e = rw e
 
-  pub last_own : (m : ℕ) → 0 < m → m ≡ last_with p m → p (m - 1) ≡ true
+  pub last_miss : (i : ℕ) → p i ≡ false → last_with p (suc i) ≡ last_with p i
   unfolding last_with
-  last_own zero h e = absurd (omega arith)
-  last_own (suc n) h e = let d : suc n - 1 ≡ n = omega arith in rw d (go (p n) (last_le n) e)
+  last_miss i e = rw e
+
+  pub last_own : (i : ℕ) → suc i ≡ last_with p (suc i) → p i ≡ true
+  unfolding last_with
+  last_own i e = go (p i) (last_le i) e
     where
-      go : (b : Bool) → last_with p n ≤ n → suc n ≡ (if b then suc n else last_with p n) → b ≡ true
+      go : (b : Bool) → last_with p i ≤ i → suc i ≡ (if b then suc i else last_with p i) → b ≡ true
       go true l x = refl
       go false l x = absurd (omega arith)
 
@@ -90,119 +87,68 @@ key_bucket h s t i e =
     let b : (item_at h i).entry.transaction ≡ t = eqb-true _ _ (and_r (eqb (item_at h i).stream s) _ e) in
     eq-eqb (bucket_at h i) (bucket_of s t) (cc)
 
--- a walk that stands at m has passed no place with the key, and m is of the bucket
-pub record Walk (h : List ℕ) (s t start m : ℕ) : Type 0 where
-  pub low : m ≤ start
-  pub own : m ≡ last_with (in_bucket h (bucket_of s t)) m
-  pub same : last_with (is_of h s t) start ≡ last_with (is_of h s t) m
-
-module _ (h : List ℕ) (s t start m : ℕ) (w : Walk h s t start m) where
-  pub walk_end : m ≡ 0 → 0 ≡ last_with (is_of h s t) start
-  unfolding last_with
-  walk_end e = sym (w.same ∙ ap (last_with (is_of h s t)) e)
-
-  pub walk_hit : 0 < m → is_of h s t (m - 1) ≡ true → m ≡ last_with (is_of h s t) start
-  walk_hit l e = sym (w.same ∙ last_hit (is_of h s t) m l e)
-
-  module _ (next : List ℕ) (c : Chained next h start) (l : 0 < m) where
-    pub walk_on : is_of h s t (m - 1) ≡ false → Walk h s t start (get_or next (m - 1) 0)
-    unfolding Chained in_bucket
-    walk_on e =
-        let q : ℕ → Bool = in_bucket h (bucket_of s t) in
-        let low : m ≤ start = w.low in
-        let b : bucket_at h (m - 1) ≡ bucket_of s t = eqb-true _ _ (last_own q m l w.own) in
-        let n : get_or next (m - 1) 0 ≡ last_with q (m - 1) = c (m - 1) (omega arith) ∙ ap (λ (x : ℕ). last_with (in_bucket h x) (m - 1)) b in
-        rw n
-        (record {
-          low = omega (arith, last_le q (m - 1));
-          own = last_jump q q (λ k x. x) (m - 1);
-          same = w.same ∙ last_miss (is_of h s t) m l e ∙ last_jump (is_of h s t) q (key_bucket h s t) (m - 1);
-        })
-
-    -- a walk goes down
-    pub walk_less : get_or next (m - 1) 0 < m
-    unfolding Chained
-    walk_less = let low : m ≤ start = w.low in omega (arith, c (m - 1) (omega arith), last_le (in_bucket h (bucket_at h (m - 1))) (m - 1))
-
--- ---- a place looked for from the head of its bucket
-
-module _ (h head next : List ℕ) (n s t b : ℕ) (index : Indexed h head next n) (eb : b ≡ bucket_of s t) (small : b < 256) where
-  start_is : get_or head b 0 ≡ last_with (in_bucket h (bucket_of s t)) n
-  start_is = index.heads b small ∙ ap (λ (x : ℕ). last_with (in_bucket h x) n) eb
-
-  pub ready : n ≤ 256 → n * 20 ≤ length h → Ready h next s t (get_or head b 0)
-  unfolding Chained
-  ready l r =
+module _ (h head next : List ℕ) (n s t : ℕ) (index : Indexed h head next n) where
+  pub walk_start : (b : ℕ) → b ≡ bucket_of s t → b < 256 → Walk h s t n (get_or head b 0)
+  walk_start b eb small =
       let q : ℕ → Bool = in_bucket h (bucket_of s t) in
-      let le : last_with q n ≤ n = last_le q n in
-      rw start_is
-      (record { low = omega arith; fits = omega arith; chained = λ k x. index.chained k (omega arith); own = last_jump q q (λ k x. x) n })
+      rw (index.heads b small, eb)
+      (record { low = last_le q n; own = last_jump q q (λ k x. x) n; same = last_jump (is_of h s t) q (key_bucket h s t) n })
 
-  pub found : last_with (is_of h s t) (get_or head b 0) ≡ last_with (is_of h s t) n
-  found = rw start_is (sym (last_jump (is_of h s t) (in_bucket h (bucket_of s t)) (key_bucket h s t) n))
+  pub walk_on : (i : ℕ) → Walk h s t n (suc i) → is_of h s t i ≡ false → Walk h s t n (get_or next i 0)
+  unfolding in_bucket
+  walk_on i w e =
+      let q : ℕ → Bool = in_bucket h (bucket_of s t) in
+      let low : suc i ≤ n = w.low in
+      let b : bucket_at h i ≡ bucket_of s t = eqb-true _ _ (last_own q i w.own) in
+      rw (index.chained i (omega arith), b)
+      (record {
+        low = omega (arith, last_le q i);
+        own = last_jump q q (λ k x. x) i;
+        same = w.same ∙ last_miss (is_of h s t) i e ∙ last_jump (is_of h s t) q (key_bucket h s t) i;
+      })
 
--- ---- the tables, place by place
+pub walk_hit : (h : List ℕ) (s t n i : ℕ) → Walk h s t n (suc i) → is_of h s t i ≡ true → suc i ≡ last_with (is_of h s t) n
+walk_hit h s t n i w e = sym (w.same ∙ last_hit (is_of h s t) i e)
 
--- what holds after the first n places
-pub record Chaining (h head next : List ℕ) (n : ℕ) : Type 0 where
-  pub size_head : length head ≡ 256
-  pub size_next : 256 ≤ length next
-  pub index : Indexed h head next n
+pub walk_end : (h : List ℕ) (s t n : ℕ) → Walk h s t n 0 → 0 ≡ last_with (is_of h s t) n
+unfolding last_with
+walk_end h s t n w = sym w.same
 
--- and the table of the last places before each
-pub record Built (h head next last : List ℕ) (n : ℕ) : Type 0 where
-  pub chains : Chaining h head next n
-  pub size_last : 256 ≤ length last
-  pub lasts : Lasts last h n
+-- ---- the chains, place by place
 
-pub chaining_none : (h next : List ℕ) → 256 ≤ length next → Chaining h (replicate 256 0) next 0
-unfolding Chained last_with
-chaining_none h next n = record { size_head = refl; size_next = n; index = record { heads = λ b l. get_or-replicate 256 b 0 0 l; chained = below_none _ } }
+pub indexed_none : (h : List ℕ) → Indexed h (replicate 256 0) (replicate 256 0) 0
+unfolding last_with
+indexed_none h = record { heads = λ b l. get_or-replicate 256 b 0 0 l; chained = below_none _ }
 
-pub built_none : (h next last : List ℕ) → 256 ≤ length next → 256 ≤ length last → Built h (replicate 256 0) next last 0
-unfolding Lasts
-built_none h next last n m = record { chains = chaining_none h next n; size_last = m; lasts = below_none _ }
-
-module _ (h head next : List ℕ) (i s t b : ℕ) (eb : b ≡ bucket_of s t) (small : b < 256) (es : s ≡ (item_at h i).stream) (et : t ≡ (item_at h i).entry.transaction) where
-  own_bucket : bucket_at h i ≡ b
-  own_bucket = rw (← es, ← et) (sym eb)
-
+module _ (h head next : List ℕ) (i b : ℕ) (size_head : length head ≡ 256) (size_next : length next ≡ 256) (eb : b ≡ bucket_at h i) (small : b < 256) (w : Indexed h head next i) where
   -- the new head of the place's bucket, and the old ones of the others
-  new_head : Chaining h head next i → (x : ℕ) → x < 256 → (z : Bool) → eqb b x ≡ z → get_or (set head b (i + 1)) x 0 ≡ last_with (in_bucket h x) (i + 1)
+  new_head : (x : ℕ) → x < 256 → (z : Bool) → eqb b x ≡ z → get_or (set head b (i + 1)) x 0 ≡ last_with (in_bucket h x) (i + 1)
   unfolding last_with in_bucket
-  new_head w x y true e =
+  new_head x y true e =
       let e' : b ≡ x = eqb-true b x e in
-      let sh = w.size_head in
-      rw (← e', get_or-set_same head b (i + 1) 0 (omega arith), add-one i, own_bucket, eq-eqb b b refl)
-  new_head w x y false e =
+      rw (← e', get_or-set_same head b (i + 1) 0 (omega arith), add-one i, ← eb, eq-eqb b b refl)
+  new_head x y false e =
       let n : x ≡ b → ⊥ = λ z. eqb-false b x e (sym z) in
-      rw (get_or-set_other head b x (i + 1) 0 n, add-one i, own_bucket, e) (w.index.heads x y)
+      rw (get_or-set_other head b x (i + 1) 0 n, add-one i, ← eb, e) (w.heads x y)
 
-  pub chaining_more : i < 256 → Chaining h head next i → Chaining h (set head b (i + 1)) (set next i (get_or head b 0)) (i + 1)
-  unfolding Chained
-  chaining_more l w =
-      let sn = w.size_next in
-      record {
-        size_head = simp length-set w.size_head;
-        size_next = simp length-set sn;
-        index = record {
-          heads = λ x y. new_head w x y (eqb b x) refl;
-          chained =
-              below_more _ i
-              (λ k q. let n : k ≡ i → ⊥ = λ z. omega arith in get_or-set_other next i k _ 0 n ∙ w.index.chained k q)
-              (get_or-set_same next i _ 0 (omega arith) ∙ start_is h head next i s t b w.index eb small ∙ rw (es, et));
-        };
-      }
+  pub indexed_more : i < 256 → Indexed h (set head b (i + 1)) (set next i (get_or head b 0)) (i + 1)
+  indexed_more l = record {
+    heads = λ x y. new_head x y (eqb b x) refl;
+    chained =
+        below_more _ i
+        (λ k q. let n : k ≡ i → ⊥ = λ z. omega arith in rw (get_or-set_other next i k (get_or head b 0) 0 n) (w.chained k q))
+        (rw (get_or-set_same next i (get_or head b 0) 0 (omega arith)) (w.heads b small ∙ ap (λ (x : ℕ). last_with (in_bucket h x) i) eb));
+  }
 
-  pub built_more : (last : List ℕ) (v : ℕ) → i < 256 → v ≡ last_with (is_of h s t) (get_or head b 0) → Built h head next last i → Built h (set head b (i + 1)) (set next i (get_or head b 0)) (set last i v) (i + 1)
-  unfolding Lasts
-  built_more last v l ev w =
-      let sl = w.size_last in
-      record {
-        chains = chaining_more l w.chains;
-        size_last = simp length-set sl;
-        lasts =
-            below_more _ i
-            (λ k q. let n : k ≡ i → ⊥ = λ z. omega arith in get_or-set_other last i k v 0 n ∙ w.lasts k q)
-            (get_or-set_same last i v 0 (omega arith) ∙ ev ∙ found h head next i s t b w.chains.index eb small ∙ rw (es, et));
-      }
+-- ---- the table of the last places, place by place
+
+pub lasts_none : (h : List ℕ) (last : List (Option ℕ)) → Lasts last h 0
+unfolding Lasts
+lasts_none h last = below_none _
+
+pub lasts_more : (h : List ℕ) (last : List (Option ℕ)) (i : ℕ) (v : Option ℕ) → length last ≡ 256 → i < 256 → one_past v ≡ last_before h i → Lasts last h i → Lasts (set last i v) h (i + 1)
+unfolding Lasts
+lasts_more h last i v size l ev w =
+    below_more _ i
+    (λ k q. let n : k ≡ i → ⊥ = λ z. omega arith in rw (get_or-set_other last i k v None n) (w k q))
+    (rw (get_or-set_same last i v None (omega arith)) ev)

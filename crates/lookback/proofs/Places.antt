@@ -44,6 +44,22 @@ module _ (h : List ℕ) (i : ℕ) where
   unfolding item_of
   transaction_is = number32_drop (i * 20) h 4
 
+  pub argument_is : (item_at h i).entry.argument ≡ number16 h (i * 20 + 8)
+  unfolding item_of
+  argument_is = number16_drop (i * 20) h 8
+
+  pub flagged_is : (item_at h i).entry.flagged ≡ eqb (get_or h (i * 20 + 11) 0) 1
+  unfolding item_of
+  flagged_is = rw (get_or-drop (i * 20) h 11 0)
+
+  pub value_is : (item_at h i).entry.value ≡ number32 h (i * 20 + 12)
+  unfolding item_of
+  value_is = number32_drop (i * 20) h 12
+
+  pub epoch_is : (item_at h i).entry.epoch ≡ number32 h (i * 20 + 16)
+  unfolding item_of
+  epoch_is = number32_drop (i * 20) h 16
+
 -- ---- one place more
 
 module _ {X : Type 0} (size : ℕ) (dec : List ℕ → X) where

@@ -7,177 +7,243 @@ ghost use Rattle.model.specs.Decoding.{mine};
 ghost use Rattle.model.specs.Stages.{stage};
 ghost use Rattle.model.specs.Section.{item_at, items};
 ghost use Rattle.lookback.specs.Places.{stage_at};
-ghost use Rattle.lookback.specs.Last.{last_with, is_of, Lasts, bucket_of, Indexed, Ready};
+ghost use Rattle.lookback.specs.Last.{one_past, last_with, is_of, last_before, Lasts, bucket_of, bucket_at, Indexed, Walk};
 
 use model::Stage;
 
-// Three fields of a place.
-pub fn kind_at(held: &[u8], i: usize) -> u8
-    requires { i * 20 + 20 ≤ length held.now }
-    ensures { result ≡ (item_at held.now i).entry.kind }
-{
-    held[i * 20]
+// A held section: `count` places of 20 bytes each, which the bytes begin with.
+#[derive(Clone, Copy)]
+pub struct Section<'a> {
+    pub bytes: &'a [u8],
+    pub count: usize,
+    pub ghost few: { count ≤ 256 },
+    pub ghost within: { count * 20 ≤ length bytes.now },
 }
 
-pub fn stream_at(held: &[u8], i: usize) -> u8
-    requires { i * 20 + 20 ≤ length held.now }
-    ensures { result ≡ (item_at held.now i).stream }
-{
-    held[i * 20 + 1]
-}
+impl<'a> Section<'a> {
+    pub fn new(bytes: &'a [u8], count: usize) -> Section<'a>
+        requires { (count ≤ 256) × (count * 20 ≤ length bytes.now) }
+        ensures { (result.bytes.now ≡ bytes.now) × (result.count ≡ count) }
+    {
+        Section { bytes, count }
+    }
 
-pub fn transaction_at(held: &[u8], i: usize) -> u32
-    requires { i * 20 + 20 ≤ length held.now }
-    ensures { result ≡ (item_at held.now i).entry.transaction }
-{
-    wire::get32(held, i * 20 + 4)
-}
+    // Each is one line, named for its field: one function of a type and an offset would have the reader count bytes where it is
+    // called. A place's number is a plain number, so that each asks for one below the count.
 
-fn is_of(held: &[u8], fragment: u8, transaction: u32, i: usize) -> bool
-    requires { i * 20 + 20 ≤ length held.now }
-    ensures { result ≡ is_of held.now fragment transaction i }
-{
-    (stream_at(held, i) == fragment) & (transaction_at(held, i) == transaction)
-}
+    // ---- the fields of a place
 
-// One more than the last place below n of a stream and a transaction, or 0: looked for backwards.
-pub fn last_with(held: &[u8], fragment: u8, transaction: u32, n: usize) -> u16
-    requires { (n ≤ 256) × (n * 20 ≤ length held.now) }
-    ensures { result ≡ last_with (is_of held.now fragment transaction) n }
-{
-    let mut m = n;
-    while m != 0 {
-        let i = m - 1;
-        if is_of(held, fragment, transaction, i) {
-            return m as u16;
+    #[tactic(auto, using(crate::proofs::Places::kind_is))]
+    pub fn kind(self, i: usize) -> u8
+        requires { i < self.count }
+        ensures { result ≡ (item_at self.entry.bytes.now i).entry.kind }
+    {
+        self.bytes[i * 20]
+    }
+
+    #[tactic(auto, using(crate::proofs::Places::stream_is))]
+    pub fn stream(self, i: usize) -> u8
+        requires { i < self.count }
+        ensures { result ≡ (item_at self.entry.bytes.now i).stream }
+    {
+        self.bytes[i * 20 + 1]
+    }
+
+    #[tactic(auto, using(crate::proofs::Places::transaction_is))]
+    pub fn transaction(self, i: usize) -> u32
+        requires { i < self.count }
+        ensures { result ≡ (item_at self.entry.bytes.now i).entry.transaction }
+    {
+        wire::get(self.bytes, i * 20 + 4)
+    }
+
+    // The key of a put or a delete, and the coordinator of a P.
+    #[tactic(auto, using(crate::proofs::Places::argument_is))]
+    pub fn argument(self, i: usize) -> u16
+        requires { i < self.count }
+        ensures { result ≡ (item_at self.entry.bytes.now i).entry.argument }
+    {
+        wire::get(self.bytes, i * 20 + 8)
+    }
+
+    #[tactic(auto, using(crate::proofs::Places::flagged_is))]
+    pub fn flagged(self, i: usize) -> bool
+        requires { i < self.count }
+        ensures { result ≡ (item_at self.entry.bytes.now i).entry.flagged }
+    {
+        self.bytes[i * 20 + 11] == 1
+    }
+
+    #[tactic(auto, using(crate::proofs::Places::value_is))]
+    pub fn value(self, i: usize) -> u32
+        requires { i < self.count }
+        ensures { result ≡ (item_at self.entry.bytes.now i).entry.value }
+    {
+        wire::get(self.bytes, i * 20 + 12)
+    }
+
+    #[tactic(auto, using(crate::proofs::Places::epoch_is))]
+    pub fn epoch(self, i: usize) -> u32
+        requires { i < self.count }
+        ensures { result ≡ (item_at self.entry.bytes.now i).entry.epoch }
+    {
+        wire::get(self.bytes, i * 20 + 16)
+    }
+
+    #[tactic(auto, unfolding(crate::specs::Last::is_of))]
+    fn is_of(self, fragment: u8, transaction: u32, i: usize) -> bool
+        requires { i < self.count }
+        ensures { result ≡ is_of self.entry.bytes.now fragment transaction i }
+    {
+        self.stream(i) == fragment && self.transaction(i) == transaction
+    }
+
+    // ---- the last place of a transaction
+
+    // Among the places before `end`, the last of a stream and a transaction: looked for backwards.
+    #[tactic(auto, using(crate::proofs::Chains::last_turn), unfolding(crate::specs::Last::last_with))]
+    pub fn last_of(self, fragment: u8, transaction: u32, end: usize) -> Option<u8>
+        requires { end ≤ self.count }
+        ensures { one_past result ≡ last_with (is_of self.entry.bytes.now fragment transaction) end }
+    {
+        for i in (0..end).rev() {
+            if self.is_of(fragment, transaction, i) {
+                return Some(i as u8);
+            }
         }
-        m = i;
+        None
     }
-    0
-}
 
-// The stage that such an answer says.
-pub fn stage_at(held: &[u8], last: u16) -> Stage
-    requires { last * 20 ≤ length held.now }
-    ensures { result ≡ stage_at held.now last }
-{
-    if last == 0 {
-        return Stage::Unheard;
+    // The stage that such a place says.
+    #[tactic(auto, unfolding(crate::specs::Places::stage_at))]
+    pub fn stage_at(self, last: Option<u8>) -> Stage
+        requires { one_past last ≤ self.count }
+        ensures { result ≡ stage_at self.entry.bytes.now (one_past last) }
+    {
+        match last {
+            Some(i) => entry::stage_after(self.kind(usize::from(i))),
+            None => Stage::Unheard,
+        }
     }
-    let i = last - 1;
-    entry::stage_after(kind_at(held, i as usize))
-}
 
-// The stage of a transaction in a stream after the first n places.
-pub fn stage_of(held: &[u8], n: usize, fragment: u8, transaction: u32) -> Stage
-    requires { (n ≤ 256) × (n * 20 ≤ length held.now) }
-    ensures { result ≡ stage transaction (mine fragment (items n held.now)) }
-{
-    stage_at(held, last_with(held, fragment, transaction, n))
-}
+    // The stage of a transaction in a stream after all places.
+    #[tactic(auto, using(crate::proofs::Chains::last_le, crate::proofs::Places::stage_last))]
+    pub fn stage_of(self, fragment: u8, transaction: u32) -> Stage
+        ensures { result ≡ stage transaction (mine fragment (items self.entry.count self.entry.bytes.now)) }
+    {
+        self.stage_at(self.last_of(fragment, transaction, self.count))
+    }
 
-fn wide(x: u32) -> u64
-    ensures { result ≡ x }
-{
-    x as u64
-}
-
-pub fn wide16(x: u16) -> usize
-    ensures { result ≡ x }
-{
-    x as usize
+    // For each place the last one before it of its stream and transaction, in one pass: a place goes back along its bucket,
+    // so the time grows with the count alone unless many transactions share a bucket.
+    #[tactic(auto, using(crate::proofs::Chains::lasts_none))]
+    pub fn lasts(self) -> [Option<u8>; 256]
+        ensures { Lasts result self.entry.bytes.now self.entry.count }
+    {
+        let mut last = [None; 256];
+        let mut index = Index::new(self);
+        for i in 0..self.count {
+            last[i] = index.add();
+        }
+        last
+    }
 }
 
 // The bucket of a stream and a transaction.
+#[tactic(auto, unfolding(crate::specs::Last::bucket_of))]
 pub fn bucket(fragment: u8, transaction: u32) -> usize
     ensures { (result ≡ bucket_of fragment transaction) × (result < 256) }
 {
-    ((wide(transaction) * 2654435761 / 16777216 + (fragment as u64)) % 256) as usize
+    ((u64::from(transaction) * 2654435761 / 16777216 + u64::from(fragment)) % 256) as usize
 }
 
-// As `last_with`, along the chain of the bucket from `start`; after 16 places of it, where many share the bucket, backwards.
-fn last_chained(held: &[u8], next: &[u16; 256], start: u16, fragment: u8, transaction: u32) -> u16
-    requires { Ready held.now next.now fragment transaction start }
-    ensures { result ≡ last_with (is_of held.now fragment transaction) start }
-{
-    let mut m = wide16(start);
-    let mut left: usize = 16;
-    while m != 0 {
-        if left == 0 {
-            return last_with(held, fragment, transaction, m);
-        }
-        let i = m - 1;
-        if is_of(held, fragment, transaction, i) {
-            return m as u16;
-        }
-        m = wide16(next[i]);
-        left -= 1;
-    }
-    0
-}
-
-// For each of n places the last one before it of its stream and transaction, in one pass: a place goes back along its
-// bucket, so the time grows with n alone unless many transactions share a bucket.
-pub fn lasts(held: &[u8], n: usize) -> [u16; 256]
-    requires { (n ≤ 256) × (n * 20 ≤ length held.now) }
-    ensures { Lasts result held.now n }
-{
-    let mut head = [0u16; 256];
-    let mut next = [0u16; 256];
-    let mut last = [0u16; 256];
-    let mut i: usize = 0;
-    while i < n {
-        let s = stream_at(held, i);
-        let t = transaction_at(held, i);
-        let b = bucket(s, t);
-        let start = head[b];
-        last[i] = last_chained(held, &next, start, s, t);
-        next[i] = start;
-        head[b] = (i + 1) as u16;
-        i += 1;
-    }
-    last
-}
-
-// The chains alone, for places that are looked for from the end: the last place of each bucket, and for each place the one
-// before it in its bucket.
+// Places chained by their buckets, in their order: the last place of each bucket, and for each place the one before it in
+// its bucket.
 #[derive(Clone, Copy)]
-pub struct Index {
+pub struct Index<'a> {
+    pub held: Section<'a>,
+    pub chained: usize,
+    // `head` is by bucket and `next` by place, so they are two arrays. One more than the place, or 0: with options, whose tag and place are stored apart and read together, a close took 1.07 times
+    // as long.
     pub head: [u16; 256],
     pub next: [u16; 256],
+    pub ghost within: { chained ≤ held.count },
+    pub ghost indexed: { Indexed held.bytes.now head next chained },
 }
 
-pub fn index_places(held: &[u8], n: usize) -> Index
-    requires { (n ≤ 256) × (n * 20 ≤ length held.now) }
-    ensures { Indexed held.now result.head result.next n }
-{
-    let mut head = [0u16; 256];
-    let mut next = [0u16; 256];
-    let mut i: usize = 0;
-    while i < n {
-        let b = bucket(stream_at(held, i), transaction_at(held, i));
-        next[i] = head[b];
-        head[b] = (i + 1) as u16;
-        i += 1;
+impl<'a> Index<'a> {
+    // None of the places is chained.
+    pub fn new(held: Section<'a>) -> Index<'a>
+        ensures { (result.held ≡ held.entry) × (result.chained ≡ 0) }
+    {
+        Index {
+            held,
+            chained: 0,
+            head: [0; 256],
+            next: [0; 256],
+        }
     }
-    Index {
-        head: head,
-        next: next,
-    }
-}
 
-// As `last_with`, along the chains.
-pub fn last_indexed(
-    held: &[u8],
-    head: &[u16; 256],
-    next: &[u16; 256],
-    n: usize,
-    fragment: u8,
-    transaction: u32,
-) -> u16
-    requires { (n ≤ 256) × (n * 20 ≤ length held.now) × Indexed held.now head.now next.now n }
-    ensures { result ≡ last_with (is_of held.now fragment transaction) n }
-{
-    let b = bucket(fragment, transaction);
-    last_chained(held, next, head[b], fragment, transaction)
+    // All of the places are chained.
+    pub fn of(held: Section<'a>) -> Index<'a>
+        ensures { (result.held ≡ held.entry) × (result.chained ≡ held.entry.count) }
+    {
+        let mut index = Index::new(held);
+        for i in 0..held.count {
+            index.chain(bucket(held.stream(i), held.transaction(i)));
+        }
+        index
+    }
+
+    // Chains the next place, whose bucket is b.
+    fn chain(&mut self, b: usize)
+        requires { (self.old.chained < self.old.held.count) × (b ≡ bucket_at self.old.held.bytes.now self.old.chained) × (b < 256) }
+        ensures { (self.new.held ≡ self.old.held) × (self.new.chained ≡ self.old.chained + 1) }
+    {
+        let i = self.chained;
+        self.next[i] = self.head[b];
+        self.head[b] = (i + 1) as u16;
+        self.chained = i + 1;
+    }
+
+    // Chains the next place, and answers the last one before it of its stream and transaction.
+    pub fn add(&mut self) -> Option<u8>
+        requires { self.old.chained < self.old.held.count }
+        ensures { (self.new.held ≡ self.old.held) × (self.new.chained ≡ self.old.chained + 1) × (one_past result ≡ last_before self.old.held.bytes.now self.old.chained) }
+    {
+        let fragment = self.held.stream(self.chained);
+        let transaction = self.held.transaction(self.chained);
+        let b = bucket(fragment, transaction);
+        let last = self.last_from(self.head[b], fragment, transaction);
+        self.chain(b);
+        last
+    }
+
+    // Among the chained places, the last of a stream and a transaction.
+    pub fn last_of(&self, fragment: u8, transaction: u32) -> Option<u8>
+        ensures { one_past result ≡ last_with (is_of self.now.held.bytes.now fragment transaction) self.now.chained }
+    {
+        let start = self.head[bucket(fragment, transaction)];
+        self.last_from(start, fragment, transaction)
+    }
+
+    // As `last_of`, along the chain of the bucket from its head; after 16 places of it, where many share the bucket, backwards.
+    #[tactic(auto, using(crate::proofs::Chains::walk_end))]
+    fn last_from(&self, start: u16, fragment: u8, transaction: u32) -> Option<u8>
+        requires { Walk self.now.held.bytes.now fragment transaction self.now.chained start }
+        ensures { one_past result ≡ last_with (is_of self.now.held.bytes.now fragment transaction) self.now.chained }
+    {
+        let mut at = usize::from(start);
+        for _ in 0..16 {
+            if at == 0 {
+                return None;
+            }
+            let i = at - 1;
+            if self.held.is_of(fragment, transaction, i) {
+                return Some(i as u8);
+            }
+            at = usize::from(self.next[i]);
+        }
+        self.held.last_of(fragment, transaction, at)
+    }
 }

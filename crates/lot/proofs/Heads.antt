@@ -1,17 +1,17 @@
--- A head: its tag compared, its test, and a head read back as it was written. Assumes nothing.
+-- Bytes compared; a head read back as it was written. Assumes nothing.
 use Prim.Native.Nat.{ℕ, zero, suc, ◌+◌, ◌*◌, ◌/◌, ◌%◌, ◌<◌}
 use mathlib.Core.Path.{◌≡◌, refl, ap}
-use mathlib.Core.Bool.{Bool, ◌&&◌, and-true, and_assoc}
+use mathlib.Core.Bool.{◌&&◌}
 use mathlib.Core.List.{List, [], ◌∷◌, ◌++◌}
 use native.Mathlib.Omega.{arith}
-use lib.Dec.{leb, eqb}
+use lib.Dec.{eqb}
 use lib.ListN.{length, get_or, drop, length-drop}
 use Rattle.wire.specs.Numbers.{number16, number32, with16, with32, bytes16, bytes32}
-use Rattle.model.specs.Lists.{every}
-use Rattle.model.specs.Account.{account_fits}
+use Rattle.std.specs.Prelude.{nat_eq}
+use Rattle.std.specs.Cmp.Lexicographic.{pointwise}
 use Rattle.model.specs.Decoding.{same}
 use Rattle.lot.specs.Layout.{OPEN}
-use Rattle.lot.specs.View.{tag_of, head_fits}
+use Rattle.lot.specs.View.{tag_of}
 use Rattle.lot.specs.Head.{numbers_of, head_bytes}
 use Rattle.lot.specs.declared.Account.{Account}
 
@@ -27,16 +27,13 @@ spell zero (x ∷ l) e = absurd (omega arith)
 spell (suc n) [] e = absurd (omega arith)
 spell (suc n) (x ∷ l) e = ap (λ m. x ∷ m) (spell n l (omega arith))
 
--- the four bytes of a tag, compared
-pub same_tag : (h t : List ℕ) → length h ≡ 16 → length t ≡ 4
-    → (((eqb (get_or h 0 0) (get_or t 0 0) && eqb (get_or h 1 0) (get_or t 1 0)) && eqb (get_or h 2 0) (get_or t 2 0)) && eqb (get_or h 3 0) (get_or t 3 0)) ≡ same (tag_of h) t
-unfolding same spelled
-same_tag h t lh lt = rw (spell 16 h lh, spell 4 t lt) (simp (and_assoc, and-true))
-
--- the test of a head, by the numbers read from it
-pub head_test : (h : List ℕ) (n : Account) (b : Bool) → n ≡ numbers_of h → b ≡ account_fits n.number n.fragments n.keys → ((b && eqb (get_or h 7 0) 0) && leb n.held 256) ≡ head_fits h
-unfolding head_fits numbers_of every
-head_test h n b e f = rw (f, e) (simp (and_assoc, and-true))
+-- `==` of two slices of bytes
+pub same_law : (xs ys : List ℕ) → pointwise nat_eq xs ys ≡ same xs ys
+unfolding same
+same_law [] [] = refl
+same_law [] (y ∷ ys) = refl
+same_law (x ∷ xs) [] = refl
+same_law (x ∷ xs) (y ∷ ys) = ap (λ b. eqb x y && b) (same_law xs ys)
 
 -- what is put into sixteen bytes, one after the other, is a head
 pub head_written : (h : List ℕ) (n : Account) → length h ≡ 16 → n.fragments < 256

@@ -2,7 +2,6 @@ pub mod Lengths
 pub mod Heads
 pub mod Counters
 pub mod Records
-pub mod Looks
 pub mod Shown
 pub mod Views
 pub mod Looked

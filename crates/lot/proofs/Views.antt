@@ -1,8 +1,8 @@
 -- A lot holds an account exactly if its sections show the account and it is well-formed. Assumes nothing.
 use Prim.Native.Nat.{ℕ, zero, suc, ◌+◌, ◌*◌, ◌<◌, ◌≤◌}
 use mathlib.Core.Path.{◌≡◌, refl, sym, ap, ◌∙◌}
-use mathlib.Core.Bool.{Bool, true, false, ◌&&◌}
-use mathlib.Core.List.{List, [], map}
+use mathlib.Core.Bool.{Bool, true, false, ◌&&◌, and-true, and_assoc}
+use mathlib.Core.List.{List, [], ◌∷◌, ◌++◌, map}
 use native.Mathlib.Omega.{arith}
 use native.Mathlib.Decide.{dec_lt}
 use lib.Dec.{ltb}
@@ -10,6 +10,7 @@ use lib.ListN.{length, get_or, drop, length-map}
 use borrow.Author.Tests.{eqb-true, eq-eqb, leb-true, le-leb, ltb-true, lt-ltb, le-ltb}
 use Rattle.wire.specs.Numbers.{number16, number32}
 use Rattle.std.specs.Prelude.{if◌then◌else◌}
+use Rattle.std.specs.List.{list_all, range_with_len}
 use Rattle.model.specs.Lists.{every, upward, sum_below}
 use Rattle.model.specs.Account.{absent, Account, empty, fresh_counters, held_count}
 use Rattle.model.specs.Accepting.{WellFormed}
@@ -41,6 +42,10 @@ shown_count p n a w =
     let all : length (upward f 0 own) ≡ n = ap length (by_streams f xs w.sorted) ∙ length_parse 20 _ n p in
     omega (arith, sum_same (λ i. length (a.at i).held) (λ i. length (own i)) f each, rw z at (length_upward f 0 own))
 
+range_more : (a n : ℕ) → range_with_len a (suc n) ≡ range_with_len a n ++ (a + n) ∷ []
+range_more a zero = let z : a + 0 ≡ a = omega arith in rw z
+range_more a (suc n) = let z : a + 1 + n ≡ a + suc n = omega arith in ap (λ xs. a ∷ xs) (range_more (a + 1) n ∙ rw z)
+
 module _ (p : ℕ → Bool) where
   pub below_in : (n : ℕ) → all_below p n ≡ true → (i : ℕ) → i < n → p i ≡ true
   unfolding all_below
@@ -55,6 +60,16 @@ module _ (p : ℕ → Bool) where
   unfolding all_below
   below_of zero w = refl
   below_of (suc n) w = and (below_of n (λ i h. w i (omega arith))) (w n (omega arith))
+
+  all_more : (xs : List ℕ) (x : ℕ) → list_all p (xs ++ x ∷ []) ≡ (list_all p xs && p x)
+  all_more [] x = and-true (p x)
+  all_more (y ∷ xs) x = ap (λ b. p y && b) (all_more xs x) ∙ sym (and_assoc (p y) (list_all p xs) (p x))
+
+  -- what `all` answers of the numbers below n
+  pub below_all : (n : ℕ) → list_all p (range_with_len 0 n) ≡ all_below p n
+  unfolding all_below
+  below_all zero = refl
+  below_all (suc n) = let z : 0 + n ≡ n = omega arith in ap (list_all p) (rw z at (range_more 0 n)) ∙ all_more (range_with_len 0 n) n ∙ ap (λ b. b && p n) (below_all n)
 
 module _ (s : List ℕ) (f : ℕ) where
   pub streams_are : (i : ℕ) → i < f → counters_at (parse f 8 counters_of s) i ≡ counters_of (drop (i * 8) s)

@@ -1,10 +1,8 @@
 -- The streams and the records of a lot after a write, and a record as it is answered.
-use Rattle.std.specs.Prelude.{ℕ, ◌+◌, ◌*◌, List, set}
+use Rattle.std.specs.Prelude.{ℕ, ◌+◌, ◌*◌, List, set, Option, Some, None}
 use Rattle.wire.specs.Numbers.{with16, with32}
 use Rattle.model.specs.Account.{Record, absent, present}
 use Rattle.model.specs.declared.Counters.{Counters}
-use Rattle.model.specs.declared.Found.{Found}
-use Rattle.model.specs.declared.Found.TheVariants.{Present, Absent}
 
 -- the streams s with the counters c of stream i: next number 2, zero 2, open epoch 4
 unfoldable pub with_counters : List ℕ → ℕ → Counters → List ℕ
@@ -17,6 +15,6 @@ with_record r i k v = with32 (set r ((i * 128 + k) * 5) 1) ((i * 128 + k) * 5 + 
 unfoldable pub without_record : List ℕ → ℕ → ℕ → List ℕ
 without_record r i k = set r ((i * 128 + k) * 5) 0
 
-abbrev pub found_of : Record → Found
-found_of absent = Absent
-found_of (present v) = Present v
+abbrev pub found_of : Record → Option ℕ
+found_of absent = None
+found_of (present v) = Some v

@@ -1,6 +1,6 @@
 // One lot's bytes, in four sections: head, streams, places and records. What they mean stands in specs/View.antt.
 // Each reader and writer takes one section and knows only its offsets; one look at a lot serves a whole call.
-// It stands on `wire`, `model` and `held`, whose test of the places is a part of the damage test.
+// It stands on `wire`, `model`, and `lookback` and `held`, whose test of the places is a part of the damage test.
 #![tactic(auto)]
 
 ghost use Rattle.std.specs.Prelude.{◌≡◌, ◌+◌, ◌*◌, ◌<◌, ◌≤◌, length, drop};
@@ -8,23 +8,28 @@ ghost use Rattle.model.specs.Account.{account_fits};
 ghost use Rattle.model.specs.Decoding.{counters_of, same};
 ghost use Rattle.lot.specs.Layout.{SIZE, head_of, streams_of, places_of, records_of};
 ghost use Rattle.lot.specs.View.{tag_of, record_at, head_fits, stream_fits, all_below, fits};
-ghost use Rattle.lot.specs.Look.{look_of};
+ghost use Rattle.lot.specs.Look.{look_of, finding};
 ghost use Rattle.lot.specs.Head.{numbers_of, fresh_numbers, head_bytes};
 ghost use Rattle.lot.specs.Writing.{with_counters, with_record, without_record, found_of};
 
-use model::{Counters, Found};
+use held::Limits;
+use lookback::Section;
+use model::{Counters, Refusal};
+use std::ops::Range;
 
-// Where the sections begin: streams, places and records, after the head; and the end of a lot.
-pub const STREAMS: usize = 16;
+// Where the sections stand, one after the other, and how many bytes a lot has.
+pub const HEAD: Range<usize> = 0..16;
 
-pub const PLACES: usize = 80;
+pub const STREAMS: Range<usize> = 16..80;
 
-pub const RECORDS: usize = 5200;
+pub const PLACES: Range<usize> = 80..5200;
+
+pub const RECORDS: Range<usize> = 5200..10320;
 
 pub const SIZE: usize = 10320;
 
 // The numbers of an account, as the head of its lot has them.
-#[derive(Clone, Copy)]
+#[derive(Clone, Copy, Debug, PartialEq, Eq)]
 pub struct Account {
     pub number: u16,
     pub fragments: u8,
@@ -56,21 +61,36 @@ impl Account {
     }
 
     // Those in a head.
+    #[tactic(auto, unfolding(crate::specs::Head::numbers_of))]
     pub fn read(head: &[u8]) -> Account
         requires { 16 ≤ length head.now }
         ensures { result ≡ numbers_of head.now }
     {
         Account {
-            number: wire::get16(head, 4),
+            number: wire::get(head, 4),
             fragments: head[6],
-            keys: wire::get16(head, 8),
-            held: wire::get16(head, 10),
-            closed: wire::get32(head, 12),
+            keys: wire::get(head, 8),
+            held: wire::get(head, 10),
+            closed: wire::get(head, 12),
+        }
+    }
+
+    // What limits the entries held of it, where its streams begin these bytes.
+    pub fn limits<'a>(self, streams: &'a [u8]) -> Limits<'a>
+        requires { self.fragments * 8 ≤ length streams.now }
+        ensures { (result.streams.now ≡ streams.now) × (result.fragments ≡ self.fragments) × (result.keys ≡ self.keys) × (result.closed ≡ self.closed) }
+    {
+        Limits {
+            streams,
+            fragments: self.fragments,
+            keys: self.keys,
+            closed: self.closed,
         }
     }
 }
 
 // Refusal 15.
+#[tactic(auto, unfolding(model::specs::Account::account_fits, model::specs::Lists::every))]
 pub fn account_fits(number: u32, fragments: u32, keys: u32) -> bool
     ensures { result ≡ account_fits number fragments keys }
 {
@@ -82,110 +102,97 @@ pub fn account_fits(number: u32, fragments: u32, keys: u32) -> bool
         & (keys <= Account::MOST_KEYS)
 }
 
-// ---- sections
+// ---- sections; each is lent as a slice, since it is a part of a lot: as `&mut [u8; 5120]` it would come from `first_chunk_mut`,
+// with a `None` that can't be, and a fragment and key with an invariant would be proved small where each is made, as they are now
 
 // Writes the head of an open lot.
+#[tactic(auto, using(crate::proofs::Heads::head_written))]
 pub fn write_head(head: &mut [u8], account: Account)
     requires { length head.old ≡ 16 }
     ensures { head.new ≡ head_bytes account }
 {
     wire::copy(b"OPEN", head);
-    wire::put16(head, 4, account.number);
-    wire::put16(head, 6, account.fragments as u16);
-    wire::put16(head, 8, account.keys);
-    wire::put16(head, 10, account.held);
-    wire::put32(head, 12, account.closed);
+    wire::put(head, 4, account.number);
+    wire::put(head, 6, account.fragments as u16);
+    wire::put(head, 8, account.keys);
+    wire::put(head, 10, account.held);
+    wire::put(head, 12, account.closed);
 }
 
 // The counters of stream i.
+#[tactic(auto, using(crate::proofs::Counters::counters_at_law))]
 pub fn read_counters(streams: &[u8], i: usize) -> Counters
     requires { i * 8 + 8 ≤ length streams.now }
     ensures { result ≡ counters_of (drop (i * 8) streams.now) }
 {
     Counters {
-        next: wire::get16(streams, i * 8),
-        epoch: wire::get32(streams, i * 8 + 4),
+        next: wire::get(streams, i * 8),
+        epoch: wire::get(streams, i * 8 + 4),
     }
 }
 
+#[tactic(auto, unfolding(crate::specs::Writing::with_counters))]
 pub fn write_counters(streams: &mut [u8], i: usize, c: Counters)
     requires { i * 8 + 8 ≤ length streams.old }
     ensures { streams.new ≡ with_counters streams.old i c }
 {
-    wire::put16(streams, i * 8, c.next);
-    wire::put16(streams, i * 8 + 2, 0);
-    wire::put32(streams, i * 8 + 4, c.epoch);
+    wire::put(streams, i * 8, c.next);
+    wire::put(streams, i * 8 + 2, 0u16);
+    wire::put(streams, i * 8 + 4, c.epoch);
 }
 
-// The record of fragment i and key k.
-pub fn read_record(records: &[u8], i: usize, k: usize) -> Found
+// Where the record of fragment i and key k begins among the records.
+fn record_start(i: usize, k: usize) -> usize
+    requires { (i < 8) × (k < 128) }
+    ensures { result ≡ (i * 128 + k) * 5 }
+{
+    (i * 128 + k) * 5
+}
+
+// The value of the record of fragment i and key k, or none where it is absent.
+#[tactic(auto, unfolding(crate::specs::View::record_at))]
+pub fn read_record(records: &[u8], i: usize, k: usize) -> Option<u32>
     requires { (length records.now ≡ 5120) × (i < 8) × (k < 128) }
     ensures { result ≡ found_of (record_at records.now i k) }
 {
-    let at = (i * 128 + k) * 5;
+    let at = record_start(i, k);
     if records[at] == 0 {
-        Found::Absent
+        None
     } else {
-        Found::Present(wire::get32(records, at + 1))
+        Some(wire::get(records, at + 1))
     }
 }
 
+#[tactic(auto, unfolding(crate::specs::Writing::with_record))]
 pub fn put_record(records: &mut [u8], i: usize, k: usize, value: u32)
     requires { (length records.old ≡ 5120) × (i < 8) × (k < 128) }
     ensures { records.new ≡ with_record records.old i k value }
 {
-    let at = (i * 128 + k) * 5;
+    let at = record_start(i, k);
     records[at] = 1;
-    wire::put32(records, at + 1, value);
+    wire::put(records, at + 1, value);
 }
 
+#[tactic(auto, unfolding(crate::specs::Writing::without_record))]
 pub fn delete_record(records: &mut [u8], i: usize, k: usize)
     requires { (length records.old ≡ 5120) × (i < 8) × (k < 128) }
     ensures { records.new ≡ without_record records.old i k }
 {
-    records[(i * 128 + k) * 5] = 0;
-}
-
-// ---- the sections of a lot, to read
-
-pub fn head_of(lot: &[u8]) -> &[u8]
-    requires { length lot.now ≡ SIZE }
-    ensures { result.now ≡ head_of lot.now }
-{
-    &lot[0..STREAMS]
-}
-
-pub fn streams_of(lot: &[u8]) -> &[u8]
-    requires { length lot.now ≡ SIZE }
-    ensures { result.now ≡ streams_of lot.now }
-{
-    &lot[STREAMS..PLACES]
-}
-
-pub fn places_of(lot: &[u8]) -> &[u8]
-    requires { length lot.now ≡ SIZE }
-    ensures { result.now ≡ places_of lot.now }
-{
-    &lot[PLACES..RECORDS]
-}
-
-pub fn records_of(lot: &[u8]) -> &[u8]
-    requires { length lot.now ≡ SIZE }
-    ensures { result.now ≡ records_of lot.now }
-{
-    &lot[RECORDS..SIZE]
+    records[record_start(i, k)] = 0;
 }
 
 // ---- the test of a lot
 
 // Whether a head has this tag.
+#[tactic(auto, using(crate::proofs::Heads::same_law))]
 fn has_tag(head: &[u8], tag: &[u8]) -> bool
     requires { (length head.now ≡ 16) × (length tag.now ≡ 4) }
     ensures { result ≡ same (tag_of head.now) tag.now }
 {
-    (head[0] == tag[0]) & (head[1] == tag[1]) & (head[2] == tag[2]) & (head[3] == tag[3])
+    &head[..4] == tag
 }
 
+#[tactic(auto, unfolding(crate::specs::View::head_fits, crate::specs::Head::numbers_of, model::specs::Lists::every))]
 fn head_fits(head: &[u8]) -> bool
     requires { 16 ≤ length head.now }
     ensures { result ≡ head_fits head.now }
@@ -196,11 +203,12 @@ fn head_fits(head: &[u8]) -> bool
         & (a.held <= Account::MOST_HELD)
 }
 
+#[tactic(auto, unfolding(crate::specs::View::stream_fits, model::specs::Lists::every))]
 fn stream_fits(streams: &[u8], i: usize, closed: u32) -> bool
     requires { i * 8 + 8 ≤ length streams.now }
     ensures { result ≡ stream_fits closed streams.now i }
 {
-    (wire::get16(streams, i * 8 + 2) == 0) & (closed < wire::get32(streams, i * 8 + 4))
+    (wire::get::<u16>(streams, i * 8 + 2) == 0) & (closed < wire::get::<u32>(streams, i * 8 + 4))
 }
 
 // The first n streams.
@@ -208,16 +216,11 @@ pub fn streams_fit(streams: &[u8], n: usize, closed: u32) -> bool
     requires { n * 8 ≤ length streams.now }
     ensures { result ≡ all_below (stream_fits closed streams.now) n }
 {
-    let mut ok = true;
-    let mut i: usize = 0;
-    while i < n {
-        ok = ok & stream_fits(streams, i, closed);
-        i += 1;
-    }
-    ok
+    (0..n).all(|i| stream_fits(streams, i, closed))
 }
 
 // The well-formedness test: linear in the streams and the held entries.
+#[tactic(auto, unfolding(crate::specs::View::fits, crate::specs::View::head_fits, crate::specs::Head::numbers_of, model::specs::Account::account_fits, model::specs::Lists::every))]
 fn fits(head: &[u8], streams: &[u8], places: &[u8]) -> bool
     requires { (length head.now ≡ 16) × (length streams.now ≡ 64) × (length places.now ≡ 5120) }
     ensures { result ≡ fits head.now streams.now places.now }
@@ -226,46 +229,54 @@ fn fits(head: &[u8], streams: &[u8], places: &[u8]) -> bool
         return false;
     }
     let a = Account::read(head);
+    let held = Section::new(places, a.held as usize);
     streams_fit(streams, a.fragments as usize, a.closed)
-        & held::section_fits(
-            streams,
-            places,
-            a.fragments,
-            a.keys,
-            a.closed,
-            a.held as usize,
-        )
+        & held::section_fits(a.limits(streams), held)
 }
 
 // What a lot is, and of an open one the account's numbers.
-#[derive(Clone, Copy)]
+#[derive(Clone, Copy, Debug, PartialEq, Eq)]
 pub enum Look {
     Free,
     Damaged,
     Holds(Account),
 }
 
+#[tactic(auto, unfolding(crate::specs::Look::look_of, crate::specs::View::view_lot, crate::specs::View::view))]
 pub fn look_at(lot: &[u8]) -> Look
     requires { length lot.now ≡ SIZE }
     ensures { result ≡ look_of lot.now }
 {
-    let head = head_of(lot);
+    let head = &lot[HEAD];
     if has_tag(head, b"FREE") {
         return Look::Free;
     }
     if !has_tag(head, b"OPEN") {
         return Look::Damaged;
     }
-    if !fits(head, streams_of(lot), places_of(lot)) {
+    if !fits(head, &lot[STREAMS], &lot[PLACES]) {
         return Look::Damaged;
     }
     Look::Holds(Account::read(head))
 }
 
+// What a call that names an account finds in a lot: the numbers of its account, or 2 or 3.
+pub fn find(lot: &[u8], number: u32) -> Result<Account, Refusal>
+    requires { length lot.now ≡ SIZE }
+    ensures { result ≡ finding (look_of lot.now) number }
+{
+    match look_at(lot) {
+        Look::Damaged => Err(Refusal::Damaged),
+        Look::Holds(a) if a.number as u32 == number => Ok(a),
+        _ => Err(Refusal::NotThisAccount),
+    }
+}
+
 // The record of fragment i and key k, in a lot.
-pub fn record_of(lot: &[u8], i: usize, k: usize) -> Found
+#[tactic(auto, using(crate::proofs::Lengths::records_part))]
+pub fn record_of(lot: &[u8], i: usize, k: usize) -> Option<u32>
     requires { (length lot.now ≡ SIZE) × (i < 8) × (k < 128) }
     ensures { result ≡ found_of (record_at (records_of lot.now) i k) }
 {
-    read_record(records_of(lot), i, k)
+    read_record(&lot[RECORDS], i, k)
 }

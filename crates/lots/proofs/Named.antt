@@ -5,7 +5,7 @@ use mathlib.Core.Bool.{Bool, true, false, not}
 use mathlib.Core.List.{List}
 use lib.Dec.{eqb}
 use borrow.Author.Tests.{eqb-true, leb-true}
-use Rattle.std.specs.Prelude.{if◌then◌else◌}
+use Rattle.std.specs.Prelude.{if◌then◌else◌, Ok, Err}
 use Rattle.model.specs.Account as model
 use Rattle.model.specs.Account.{account_fits, Named, refused, found}
 use Rattle.model.specs.declared.Refusal.{Refusal}
@@ -16,7 +16,6 @@ use Rattle.lot.specs.declared.Account.{Account}
 use Rattle.lot.proofs.Views.{holds_well_formed}
 use Rattle.lots.specs.Memory.{lot_fits, lot_of, view_of, named}
 use Rattle.lots.specs.Looks.{numbers_from, finding_of}
-use Rattle.lots.specs.declared.Finding.TheVariants.{Refused, Found}
 
 -- the account that a call finds
 pub record Holder (m : List ℕ) (lots lot number : ℕ) (a : model.Account) : Type 0 where
@@ -39,10 +38,10 @@ module _ (m : List ℕ) (lots lot number : ℕ) where
       go true damaged x y e = no_way cc
       go true (holds b) x y e = mine b (eqb b.number number) refl x y e
 
-  pub finding_refused : {r : Refusal} → finding_of (named m lots lot number) ≡ Refused r → named m lots lot number ≡ refused r
+  pub finding_refused : {r : Refusal} → finding_of (named m lots lot number) ≡ Err r → named m lots lot number ≡ refused r
   finding_refused {r} e = go (named m lots lot number) e
     where
-      go : (n : Named) → finding_of n ≡ Refused r → n ≡ refused r
+      go : (n : Named) → finding_of n ≡ Err r → n ≡ refused r
       go (refused s) e = cc
       go (found a) e = no_way cc
 
@@ -53,10 +52,10 @@ module _ (m : List ℕ) (lots lot number : ℕ) where
     pub here : Holder m lots lot number account
     pub numbers : n ≡ numbers_from account
 
-  pub finding_found : {n : Account} → finding_of (named m lots lot number) ≡ Found n → FoundHere n
+  pub finding_found : {n : Account} → finding_of (named m lots lot number) ≡ Ok n → FoundHere n
   finding_found {n} e = go (named m lots lot number) refl e
     where
-      go : (x : Named) → named m lots lot number ≡ x → finding_of x ≡ Found n → FoundHere n
+      go : (x : Named) → named m lots lot number ≡ x → finding_of x ≡ Ok n → FoundHere n
       go (refused s) q e = no_way cc
       go (found a) q e = record { account = a; is_named = q; here = holder q; numbers = cc }
 

@@ -39,6 +39,9 @@ part m i = take (i * SIZE + SIZE - i * SIZE) (drop (i * SIZE) m)
 pub part_is : (m : List ℕ) (i : ℕ) → part m i ≡ lot_of m i
 part_is m i = let z : i * SIZE + SIZE - i * SIZE ≡ SIZE = omega arith in rw z
 
+pub lot_long : (m : List ℕ) (i : ℕ) → i * SIZE + SIZE ≤ length m → length (lot_of m i) ≡ SIZE
+lot_long m i inside = simp (length-take, length-drop) (omega arith)
+
 -- what is left of the memory m, where q is left of lot i
 module _ (m : List ℕ) (i : ℕ) (q : List ℕ) (inside : i * SIZE + SIZE ≤ length m) (kept : length q ≡ length (part m i)) where
   abbrev pub left : List ℕ

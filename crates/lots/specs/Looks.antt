@@ -1,18 +1,16 @@
 -- What the calls learn from one look at a lot: the numbers of an account stand for the account.
-use Rattle.std.specs.Prelude.{ℕ, Bool, true, false, ◌||◌, List, eqb, if◌then◌else◌}
+use Rattle.std.specs.Prelude.{ℕ, Bool, true, false, ◌||◌, List, eqb, if◌then◌else◌, Option, Some, None, Result, Ok, Err, ok_or}
+use Rattle.std.specs.Option.{option_or}
 use Rattle.model.specs.Account as model
 use Rattle.model.specs.Account.{Named, refused, found}
 use Rattle.model.specs.declared.Refusal.TheVariants as refusal
-use Rattle.model.specs.declared.Opened.{Opened}
-use Rattle.model.specs.declared.Opened.TheVariants.{InLot, NotOpened}
+use Rattle.model.specs.declared.Refusal.{Refusal}
 use Rattle.lot.specs.View.{Lot, free, damaged, holds}
 use Rattle.lot.specs.Head.{numbers_with}
 use Rattle.lot.specs.declared.Account.{Account}
 use Rattle.lot.specs.declared.Look.{Look}
 use Rattle.lot.specs.declared.Look.TheVariants.{Free, Damaged, Holds}
 use Rattle.lots.specs.Memory.{view_of, is_damaged, is_free, is_of, some_below, lowest_below}
-use Rattle.lots.specs.declared.Finding.{Finding}
-use Rattle.lots.specs.declared.Finding.TheVariants.{Refused, Found}
 use Rattle.lots.specs.declared.Survey.{Survey}
 
 -- the numbers of an account, and what a look at a lot answers
@@ -43,24 +41,22 @@ looks_of number (Holds n) = eqb n.number number
 
 -- ---- a lot and an account are named
 
-abbrev pub finding_in : Look → ℕ → Finding
-finding_in Free number = Refused refusal.NotThisAccount
-finding_in Damaged number = Refused refusal.Damaged
-finding_in (Holds n) number = if eqb n.number number then Found n else Refused refusal.NotThisAccount
-
-abbrev pub finding_of : Named → Finding
-finding_of (refused r) = Refused r
-finding_of (found a) = Found (numbers_from a)
+abbrev pub finding_of : Named → Result Account Refusal
+finding_of (refused r) = Err r
+finding_of (found a) = Ok (numbers_from a)
 
 -- ---- all lots
+
+-- the lowest number below n that passes, if one does
+abbrev pub first_below : (ℕ → Bool) → ℕ → Option ℕ
+first_below p n = if some_below p n then Some (lowest_below p n) else None
 
 -- the first n lots, for a call that opens account `number`
 unfoldable pub survey_of : List ℕ → ℕ → ℕ → Survey
 survey_of m number n = record {
   damaged = some_below (λ i. is_damaged (view_of m i)) n;
   known = some_below (λ i. is_of number (view_of m i)) n;
-  free = some_below (λ i. is_free (view_of m i)) n;
-  lowest = lowest_below (λ i. is_free (view_of m i)) n;
+  free = first_below (λ i. is_free (view_of m i)) n;
 }
 
 -- a survey and a look at lot i
@@ -68,10 +64,9 @@ abbrev pub with_look : Survey → ℕ → Look → ℕ → Survey
 with_look s i l number = record {
   damaged = s.damaged || looks_damaged l;
   known = s.known || looks_of number l;
-  free = s.free || looks_free l;
-  lowest = if s.free then s.lowest else i;
+  free = option_or s.free (if looks_free l then Some i else None);
 }
 
 -- 13 and 14 of a call that opens an account, from a survey of all lots
-abbrev pub place_in : Survey → Opened
-place_in s = if s.known then NotOpened refusal.AlreadyOpen else if s.free then InLot s.lowest else NotOpened refusal.NoFreeLot
+abbrev pub place_in : Survey → Result ℕ Refusal
+place_in s = if s.known then Err refusal.AlreadyOpen else ok_or s.free refusal.NoFreeLot

@@ -1,4 +1,5 @@
 -- The worked case of docs/RULES.md and its starred lines, computed from the definitions. Assumes nothing.
+use Rattle.std.specs.Prelude.{Result, Ok, Err}
 use Prim.Native.Nat.{ℕ, zero, suc}
 use mathlib.Core.Path.{◌≡◌, refl}
 use mathlib.Core.Bool.{Bool, true, false, not, ◌&&◌}
@@ -17,10 +18,9 @@ use Rattle.model.specs.Image.{Present, Item, shown, form, stream8, record8, held
 use Rattle.model.specs.Answers.{outcome_numbers, refusal_numbers}
 use Rattle.model.specs.Runs.{Step, taking, closing, run, lists, Allowed}
 use Rattle.model.specs.declared.Entry.{Entry}
-use Rattle.model.specs.declared.Outcome.{Outcome}
-use Rattle.model.specs.declared.Outcome.TheVariants.{Done, Refused}
 use Rattle.model.specs.declared.Refusal.TheVariants.{UnfitAccount}
 use Rattle.model.proofs.Tests.{no_way, and_l, and_r}
+use Rattle.model.specs.declared.Refusal.{Refusal}
 
 -- ---- entries: fragment i, sequence number q
 
@@ -48,18 +48,18 @@ present_at i key value = record { fragment = i; key = key; value = value }
 
 -- ---- runs in which each entry is taken, and which close exactly while they can
 
-abbrev pub done : Outcome → Bool
-done Done = true
-done (Refused r) = false
+abbrev pub done : Result (Unit {0}) Refusal → Bool
+done (Ok _) = true
+done (Err r) = false
 
 unfoldable pub served : List Step → Account → Bool
 served [] a = not (done (judge_close a))
 served (taking e ∷ ss) a = not (done (judge_close a)) && (done (judge_entry a e) && served ss (taken e a))
 served (closing ∷ ss) a = done (judge_close a) && served ss (close a)
 
-is_done_law : (o : Outcome) → done o ≡ true → o ≡ Done
-is_done_law Done e = refl
-is_done_law (Refused r) e = no_way e
+is_done_law : (o : Result (Unit {0}) Refusal) → done o ≡ true → o ≡ Ok tt
+is_done_law (Ok _) e = refl
+is_done_law (Err r) e = no_way e
 
 served_allowed : (ss : List Step) (a : Account) → served ss a ≡ true → Allowed ss a
 unfolding served Allowed

@@ -3,14 +3,13 @@ use Prim.Native.Nat.{ℕ, ◌+◌, ◌*◌, ◌-◌, ◌≤◌}
 use mathlib.Core.Path.{◌≡◌, refl, sym, ap, ◌∙◌}
 use mathlib.Core.Logic.{◌↔◌}
 use mathlib.Core.Bool.{Bool, true, false}
-use mathlib.Core.Option.{Option, some, none}
 use mathlib.Core.List.{List, [], ◌∷◌, ◌++◌, append_assoc}
 use native.Mathlib.Omega.{arith}
 use lib.ListN.{length, take, length-append, take-append-drop}
 use lib.Dec.{leb, eqb}
 use borrow.Author.Tests.{eqb-true, eq-eqb, leb-true, le-leb}
 use Rattle.wire.specs.Numbers.{number32}
-use Rattle.std.specs.Prelude.{if◌then◌else◌}
+use Rattle.std.specs.Prelude.{if◌then◌else◌, Option, Some, None}
 use Rattle.model.specs.Lists.{upward, sum_below}
 use Rattle.model.specs.Account.{Record, absent, present, Account, fresh, held_count, account_fits}
 use Rattle.model.specs.Accepting.{WellFormed, Accepted}
@@ -42,7 +41,7 @@ split_last : (n : ℕ) (l : List ℕ) → l ≡ take (length l - n) l ++ last_of
 unfolding last_of
 split_last n l = sym (take-append-drop (length l - n) l)
 
-accepted : {given : List ℕ} {a : Account} → Accepted given a → load given ≡ some a
+accepted : {given : List ℕ} {a : Account} → Accepted given a → load given ≡ Some a
 unfolding load accepts image
 accepted {given} {a} w =
     let b = bytes (form a) in
@@ -51,11 +50,11 @@ accepted {given} {a} w =
     let s : last_of (length b) given ≡ b = rw w.ends (last_of_law w.front b _ refl) in
     rw (d, form_fits_law w.well_formed, l, s, same_refl b, account_form w.well_formed)
 
-loaded : {given : List ℕ} {a : Account} → load given ≡ some a → Accepted given a
+loaded : {given : List ℕ} {a : Account} → load given ≡ Some a → Accepted given a
 unfolding load accepts image
 loaded {given} {a} e = go (accepts given) refl e
   where
-    go : (b : Bool) → accepts given ≡ b → (if b then some (account (decode given)) else none) ≡ some a → Accepted given a
+    go : (b : Bool) → accepts given ≡ b → (if b then Some (account (decode given)) else None) ≡ Some a → Accepted given a
     go false q p = no_way cc
     go true q p =
         let x = decode given in
@@ -65,7 +64,7 @@ loaded {given} {a} e = go (accepts given) refl e
         let d : account x ≡ a = cc in
         rw (← d) (record { well_formed = well_formed x w; front = take (length given - n) given; ends = split_last n given ∙ rw (s, form_account x w) })
 
-pub loads_exactly : (given : List ℕ) (a : Account) → (load given ≡ some a) ↔ Accepted given a
+pub loads_exactly : (given : List ℕ) (a : Account) → (load given ≡ Some a) ↔ Accepted given a
 loads_exactly given a = (loaded, accepted)
 
 -- at most one account is accepted
@@ -74,15 +73,15 @@ one_account v w = let p = accepted v in let q = accepted w in cc
 
 -- ---- save, then load; load, then save
 
-pub save_load : {a : Account} → WellFormed a → (front : List ℕ) → load (front ++ image a) ≡ some a
+pub save_load : {a : Account} → WellFormed a → (front : List ℕ) → load (front ++ image a) ≡ Some a
 save_load w front = accepted (record { well_formed = w; front = front; ends = refl })
 
-pub load_save : (given : List ℕ) {a : Account} → load given ≡ some a → last_of (length (image a)) given ≡ image a
+pub load_save : (given : List ℕ) {a : Account} → load given ≡ Some a → last_of (length (image a)) given ≡ image a
 load_save given {a} e = let w = loaded e in rw w.ends (last_of_law w.front (image a) _ refl)
 
 -- ---- as many last bytes as the trailer says are read, and none before them
 
-other_front : (front front' l : List ℕ) (a : Account) → 24 ≤ length l → number32 (last_of 24 l) 16 ≤ length l → load (front ++ l) ≡ some a → load (front' ++ l) ≡ some a
+other_front : (front front' l : List ℕ) (a : Account) → 24 ≤ length l → number32 (last_of 24 l) 16 ≤ length l → load (front ++ l) ≡ Some a → load (front' ++ l) ≡ Some a
 unfolding image
 other_front front front' l a long whole e =
     let w = loaded e in
@@ -96,9 +95,9 @@ pub reads_no_more : (front front' l : List ℕ) → 24 ≤ length l → number32
 reads_no_more front front' l long whole = go (load (front ++ l)) (load (front' ++ l)) refl refl
   where
     go : (u v : Option Account) → load (front ++ l) ≡ u → load (front' ++ l) ≡ v → u ≡ v
-    go (some a) v p q = cc (other_front front front' l a long whole p)
-    go none (some b) p q = cc (other_front front' front l b long whole q)
-    go none none p q = refl
+    go (Some a) v p q = cc (other_front front front' l a long whole p)
+    go None (Some b) p q = cc (other_front front' front l b long whole q)
+    go None None p q = refl
 
 -- ---- lengths
 

@@ -1,4 +1,4 @@
--- What the judgement's answer Done says of an entry and of a close. Assumes nothing.
+-- What it says of an entry and of a close that the judgement answers Ok. Assumes nothing.
 use Prim.Native.Nat.{ℕ, zero, suc, ◌<◌}
 use mathlib.Core.Path.{◌≡◌, refl, ap}
 use mathlib.Core.Bool.{Bool, true, false, not, ◌&&◌}
@@ -6,7 +6,7 @@ use native.Mathlib.Omega.{arith}
 use native.Mathlib.Decide.{dec_lt}
 use lib.Dec.{leb, eqb}
 use borrow.Author.Tests.{ltb-true, leb-false, eqb-true, not-false}
-use Rattle.std.specs.Prelude.{if◌then◌else◌}
+use Rattle.std.specs.Prelude.{if◌then◌else◌, Result, Ok, Err}
 use Rattle.model.specs.Lists.{sum_below, one, count_below}
 use Rattle.model.specs.Entry.{is_mark, fits, inside, in_account}
 use Rattle.model.specs.Distance.{distance, below_zero, above_zero}
@@ -15,8 +15,6 @@ use Rattle.model.specs.Stages.{stage, takes}
 use Rattle.model.specs.Taking.{judge_entry}
 use Rattle.model.specs.Closing.{missing, judge_close}
 use Rattle.model.specs.declared.Entry.{Entry}
-use Rattle.model.specs.declared.Outcome.{Outcome}
-use Rattle.model.specs.declared.Outcome.TheVariants.{Done, Refused}
 use Rattle.model.specs.declared.Refusal.{Refusal}
 use Rattle.model.proofs.Tests.{nth, no_way}
 
@@ -32,7 +30,7 @@ pub record TakenFacts (a : Account) (e : Entry) : Type 0 where
   pub stage : is_mark e ≡ false → takes e.kind (stage e.transaction (a.at e.fragment).held) ≡ true
   pub room : is_mark e ≡ false → held_count a < MOST_HELD
 
-passes : (b : Bool) (r : Refusal) (o : Outcome) → (if b then Refused r else o) ≡ Done → (b ≡ false) × (o ≡ Done)
+passes : (b : Bool) (r : Refusal) (o : Result (Unit {0}) Refusal) → (if b then Err r else o) ≡ Ok tt → (b ≡ false) × (o ≡ Ok tt)
 passes true r o q = no_way cc
 passes false r o q = (refl, q)
 
@@ -44,7 +42,7 @@ pub own_fragment : (f k : ℕ) (e : Entry) → inside f k e ≡ true → e.fragm
 unfolding inside in_account
 own_fragment f k e w = ltb-true e.fragment f (nth _ w 0)
 
-pub taken_facts : (a : Account) (e : Entry) → judge_entry a e ≡ Done → TakenFacts a e
+pub taken_facts : (a : Account) (e : Entry) → judge_entry a e ≡ Ok tt → TakenFacts a e
 unfolding judge_entry
 taken_facts a e d =
     let s = a.at e.fragment in
@@ -82,10 +80,10 @@ none_below p (suc n) c i l = go (dec_lt i n) (none_below p n (omega arith) i)
     go (no k) ih = let q : i ≡ n = omega arith in rw q (no_one (p n) (omega arith))
 
 -- every stream has taken the mark of the epoch after the last closed one
-pub all_marked : (a : Account) → judge_close a ≡ Done → (i : ℕ) → i < a.fragments → suc a.closed < (a.at i).counters.epoch
+pub all_marked : (a : Account) → judge_close a ≡ Ok tt → (i : ℕ) → i < a.fragments → suc a.closed < (a.at i).counters.epoch
 unfolding judge_close missing
 all_marked a d i l = leb-false _ _ (none_below (missing a) a.fragments (go (eqb (count_below (missing a) a.fragments) 0) _ refl d) i l)
   where
-    go : (b : Bool) (r : Refusal) → eqb (count_below (missing a) a.fragments) 0 ≡ b → (if b then Done else Refused r) ≡ Done → count_below (missing a) a.fragments ≡ 0
+    go : (b : Bool) (r : Refusal) → eqb (count_below (missing a) a.fragments) 0 ≡ b → (if b then Ok (tt {0}) else Err r) ≡ Ok (tt {0}) → count_below (missing a) a.fragments ≡ 0
     go true r q e = eqb-true _ 0 q
     go false r q e = no_way cc

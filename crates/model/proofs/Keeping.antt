@@ -9,7 +9,7 @@ use native.Mathlib.Decide.{dec_lt}
 use lib.ListN.{length, length-append}
 use lib.Dec.{leb, ltb, eqb}
 use borrow.Author.Tests.{eq-eqb, ne_eqb, eqb-true, leb-true, le-leb, ltb-true, eqb-false}
-use Rattle.std.specs.Prelude.{if◌then◌else◌}
+use Rattle.std.specs.Prelude.{if◌then◌else◌, Ok}
 use Rattle.model.specs.Lists.{filter, any, every}
 use Rattle.model.specs.Entry.{is_mark, fields_fit, fits, in_account, inside, MARK, A, DELETE, P}
 use Rattle.model.specs.Account.{Held, key, Record, absent, Account, empty, account_fits, fresh, held_count, MOST_HELD}
@@ -18,7 +18,6 @@ use Rattle.model.specs.Closing.{judge_close, upto, Verdict, free, install, flag,
 use Rattle.model.specs.Accepting.{entry_fits, stream_fits, WellFormed}
 use Rattle.model.specs.Runs.{Step, taking, closing, run, Allowed}
 use Rattle.model.specs.declared.Entry.{Entry}
-use Rattle.model.specs.declared.Outcome.TheVariants.{Done}
 use Rattle.model.proofs.Tests.{no_way, and_l, and_r, either, nth, any_none, in_filter}
 use Rattle.model.proofs.Judged.{TakenFacts, taken_facts, all_marked}
 use Rattle.model.proofs.Sums.{sum_same, sum_most, sum_one, sum_none}
@@ -47,7 +46,7 @@ entry_fits_law : {a : Account} {e : Entry} → TakenFacts a e → is_mark e ≡ 
 unfolding entry_fits hold every fits inside
 entry_fits_law {a} {e} t m j n z = rw (le-leb e.kind A (no_mark e t.fit m), and_r (eqb e.spare 0) _ t.fit, ← z, t.within)
 
-pub taken_well_formed : {a : Account} (e : Entry) → WellFormed a → judge_entry a e ≡ Done → WellFormed (taken e a)
+pub taken_well_formed : {a : Account} (e : Entry) → WellFormed a → judge_entry a e ≡ Ok tt → WellFormed (taken e a)
 unfolding taken take stepped held_count
 taken_well_formed {a} e s d = record {
   fits = s.fits;
@@ -134,7 +133,7 @@ settle_empty : (n : ℕ) (decided : ℕ → ℕ → Bool) → settle n decided e
 unfolding settle survivors upto filter pieces apply
 settle_empty n decided = refl
 
-pub closed_well_formed : {a : Account} → WellFormed a → judge_close a ≡ Done → WellFormed (close a)
+pub closed_well_formed : {a : Account} → WellFormed a → judge_close a ≡ Ok tt → WellFormed (close a)
 unfolding close settle upto held_count
 closed_well_formed {a} s d = record {
   fits = s.fits;

@@ -1,13 +1,10 @@
 -- Closing epoch n, the one after the last closed.
-use Rattle.std.specs.Prelude.{ℕ, suc, Bool, true, false, not, ◌&&◌, ◌||◌, List, [], ◌∷◌, ◌++◌, map, leb, ltb, eqb, length, if◌then◌else◌}
+use Rattle.std.specs.Prelude.{ℕ, suc, Bool, true, false, not, ◌&&◌, ◌||◌, List, [], ◌∷◌, ◌++◌, map, leb, ltb, eqb, length, if◌then◌else◌, Result, Ok, Err}
 use Rattle.model.specs.Lists.{filter, any, upward, count_below, bits_of}
 use Rattle.model.specs.Entry.{PUT, DELETE, P, CC, CP, A}
 use Rattle.model.specs.Account.{Held, key, coordinator, Record, absent, present, Fragment, Account, Named, refused, found}
-use Rattle.model.specs.declared.Outcome.{Outcome}
-use Rattle.model.specs.declared.Outcome.TheVariants.{Done, Refused}
 use Rattle.model.specs.declared.Refusal.TheVariants.{MarkMissing, TooShort}
-use Rattle.model.specs.declared.Closed.{Closed}
-use Rattle.model.specs.declared.Closed.TheVariants.{Pieces, NotClosed}
+use Rattle.model.specs.declared.Refusal.{Refusal}
 
 -- ---- possible when every stream has taken mark n
 
@@ -16,18 +13,18 @@ unfoldable pub missing : Account → ℕ → Bool
 missing a i = leb (a.at i).counters.epoch (suc a.closed)
 
 -- refusal 12: a mark is missing; also a byte, bit i for stream i, and how many streams are missing
-unfoldable pub judge_close : Account → Outcome
+unfoldable pub judge_close : Account → Result (Unit {0}) Refusal
 judge_close a =
-    if eqb (count_below (missing a) a.fragments) 0 then Done
-    else Refused (MarkMissing (bits_of (missing a) a.fragments) (count_below (missing a) a.fragments))
+    if eqb (count_below (missing a) a.fragments) 0 then Ok tt
+    else Err (MarkMissing (bits_of (missing a) a.fragments) (count_below (missing a) a.fragments))
 
 -- a list has room for the pieces of 256 entries
 abbrev pub LEAST_LIST : ℕ
 LEAST_LIST = 512
 
 -- 16, then 12, of a close whose list has room for so many numbers
-unfoldable pub judge_room : Account → ℕ → Outcome
-judge_room a room = if ltb room LEAST_LIST then Refused TooShort else judge_close a
+unfoldable pub judge_room : Account → ℕ → Result (Unit {0}) Refusal
+judge_room a room = if ltb room LEAST_LIST then Err TooShort else judge_close a
 
 -- ---- what becomes of each transaction
 
@@ -150,13 +147,13 @@ pairs (p ∷ ps) = p.fragment ∷ p.transaction ∷ pairs ps
 
 -- ---- close's answer: 1 to 3 where the account is not found, 16 and 12 where it is, or the count of the pieces
 
-abbrev pub close_judged : Outcome → ℕ → Closed
-close_judged Done count = Pieces count
-close_judged (Refused r) count = NotClosed r
+abbrev pub close_judged : Result (Unit {0}) Refusal → ℕ → Result ℕ Refusal
+close_judged (Ok _) count = Ok count
+close_judged (Err r) count = Err r
 
-abbrev pub close_of : Account → ℕ → Closed
+abbrev pub close_of : Account → ℕ → Result ℕ Refusal
 close_of a room = close_judged (judge_room a room) (length (listed a))
 
-abbrev pub close_from : Named → ℕ → Closed
-close_from (refused r) room = NotClosed r
+abbrev pub close_from : Named → ℕ → Result ℕ Refusal
+close_from (refused r) room = Err r
 close_from (found a) room = close_of a room

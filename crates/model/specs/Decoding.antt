@@ -1,6 +1,5 @@
 -- How load finds the account: the trailer is followed back, and what is read is tested. That this decides what specs/Accepting.antt says is proved.
-use Rattle.std.specs.Prelude.{ℕ, zero, suc, ◌+◌, ◌*◌, ◌-◌, Bool, true, false, ◌&&◌, List, [], ◌∷◌, ◌++◌, leb, ltb, eqb, length, get_or, drop, if◌then◌else◌}
-use Rattle.std.proofs.Math.Option.{Option, some, none}
+use Rattle.std.specs.Prelude.{ℕ, zero, suc, ◌+◌, ◌*◌, ◌-◌, Bool, true, false, ◌&&◌, List, [], ◌∷◌, ◌++◌, leb, ltb, eqb, length, get_or, drop, if◌then◌else◌, Option, Some, None}
 use Rattle.wire.specs.Numbers.{number16, number32}
 use Rattle.model.specs.Lists.{every, all}
 use Rattle.model.specs.Account.{Held, Record, absent, present, Account, fresh_counters, account_fits, MOST_HELD}
@@ -125,4 +124,4 @@ accepts l =
     form_fits (decode l) && (leb (length b) (length l) && same (last_of (length b) l) b)
 
 unfoldable pub load : List ℕ → Option Account
-load l = if accepts l then some (account (decode l)) else none
+load l = if accepts l then Some (account (decode l)) else None

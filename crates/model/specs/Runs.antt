@@ -1,10 +1,9 @@
 -- Runs of one account: entries taken and epochs closed, in any order.
-use Rattle.std.specs.Prelude.{ℕ, zero, suc, ◌≡◌, List, [], ◌∷◌, eqb, if◌then◌else◌}
+use Rattle.std.specs.Prelude.{ℕ, zero, suc, ◌≡◌, List, [], ◌∷◌, eqb, if◌then◌else◌, Ok}
 use Rattle.model.specs.Account.{Account}
 use Rattle.model.specs.Taking.{judge_entry, taken}
 use Rattle.model.specs.Closing.{judge_close, close, Piece, listed}
 use Rattle.model.specs.declared.Entry.{Entry}
-use Rattle.model.specs.declared.Outcome.TheVariants.{Done}
 
 pub data Step : Type 0 where
   taking : Entry → Step
@@ -24,8 +23,8 @@ lists (closing ∷ ss) a = listed a ∷ lists ss (close a)
 -- each entry is one that the judgement takes, and each close is possible
 unfoldable pub Allowed : List Step → Account → Type 0
 Allowed [] a = Unit {0}
-Allowed (taking e ∷ ss) a = (judge_entry a e ≡ Done) × Allowed ss (taken e a)
-Allowed (closing ∷ ss) a = (judge_close a ≡ Done) × Allowed ss (close a)
+Allowed (taking e ∷ ss) a = (judge_entry a e ≡ Ok tt) × Allowed ss (taken e a)
+Allowed (closing ∷ ss) a = (judge_close a ≡ Ok tt) × Allowed ss (close a)
 
 -- the entries taken in stream j, and how many closes
 unfoldable pub log : List Step → ℕ → List Entry

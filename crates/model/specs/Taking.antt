@@ -1,5 +1,5 @@
 -- Taking an entry: what deliver judges, and what a taken entry changes.
-use Rattle.std.specs.Prelude.{ℕ, suc, Bool, false, not, ◌&&◌, List, [], ◌∷◌, ◌++◌, leb, eqb, length, if◌then◌else◌}
+use Rattle.std.specs.Prelude.{ℕ, suc, Bool, false, not, ◌&&◌, List, [], ◌∷◌, ◌++◌, leb, eqb, length, if◌then◌else◌, Result, Ok, Err}
 use Rattle.model.specs.Entry.{LENGTH, entry_of, is_mark, fits, inside}
 use Rattle.model.specs.Distance.{distance, below_zero, above_zero, after}
 use Rattle.model.specs.Account.{Held, Fragment, Account, held_count, MOST_HELD, Named, refused, found}
@@ -7,9 +7,8 @@ use Rattle.model.specs.Stages.{stage, takes}
 use Rattle.model.specs.declared.Entry.{Entry}
 use Rattle.model.specs.declared.Stage.{Stage}
 use Rattle.model.specs.declared.Counters.{Counters}
-use Rattle.model.specs.declared.Outcome.{Outcome}
-use Rattle.model.specs.declared.Outcome.TheVariants.{Done, Refused}
 use Rattle.model.specs.declared.Refusal.TheVariants.{WrongLength, Unfit, OutsideAccount, Seen, Gap, WrongMark, OutOfTurn, Full}
+use Rattle.model.specs.declared.Refusal.{Refusal}
 
 -- ---- 9, 10 and 11
 
@@ -27,25 +26,25 @@ full n e = not (is_mark e) && leb MOST_HELD n
 
 -- ---- the judgement, a line for each refusal, in its order
 
-unfoldable pub judge_entry : Account → Entry → Outcome
+unfoldable pub judge_entry : Account → Entry → Result (Unit {0}) Refusal
 judge_entry a e =
     let s = a.at e.fragment in
     let d = distance e.sequence s.counters.next in
-    if not (fits e) then Refused Unfit
-    else if not (inside a.fragments a.keys e) then Refused OutsideAccount
-    else if below_zero d then Refused Seen
-    else if above_zero d then Refused Gap
-    else if wrong_mark s.counters.epoch e then Refused WrongMark
-    else if not_taken (stage e.transaction s.held) e then Refused OutOfTurn
-    else if full (held_count a) e then Refused Full
-    else Done
+    if not (fits e) then Err Unfit
+    else if not (inside a.fragments a.keys e) then Err OutsideAccount
+    else if below_zero d then Err Seen
+    else if above_zero d then Err Gap
+    else if wrong_mark s.counters.epoch e then Err WrongMark
+    else if not_taken (stage e.transaction s.held) e then Err OutOfTurn
+    else if full (held_count a) e then Err Full
+    else Ok tt
 
-unfoldable pub judge : Account → List ℕ → Outcome
-judge a bytes = if not (eqb (length bytes) LENGTH) then Refused WrongLength else judge_entry a (entry_of bytes)
+unfoldable pub judge : Account → List ℕ → Result (Unit {0}) Refusal
+judge a bytes = if not (eqb (length bytes) LENGTH) then Err WrongLength else judge_entry a (entry_of bytes)
 
 -- deliver's answer: 1 to 3 where the account is not found, 4 to 11 where it is
-abbrev pub deliver_to : Named → List ℕ → Outcome
-deliver_to (refused r) bytes = Refused r
+abbrev pub deliver_to : Named → List ℕ → Result (Unit {0}) Refusal
+deliver_to (refused r) bytes = Err r
 deliver_to (found a) bytes = judge a bytes
 
 -- ---- a taken entry

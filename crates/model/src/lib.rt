@@ -7,7 +7,7 @@ ghost use Rattle.model.specs.Entry.{LENGTH, entry_of};
 ghost use Rattle.model.specs.Account.{fresh_counters};
 
 // The stage of a transaction in a stream, by what is held of it there.
-#[derive(Clone, Copy)]
+#[derive(Clone, Copy, Debug, PartialEq, Eq)]
 pub enum Stage {
     Unheard,
     Writing,
@@ -17,7 +17,7 @@ pub enum Stage {
 
 // The fields of an entry's 16 bytes. `argument` is the key of a put or a delete, and the coordinator fragment of a P;
 // `transaction` is a mark's epoch; `spare` is bytes 10 and 11.
-#[derive(Clone, Copy)]
+#[derive(Clone, Copy, Debug, PartialEq, Eq)]
 pub struct Entry {
     pub kind: u8,
     pub fragment: u8,
@@ -31,6 +31,7 @@ pub struct Entry {
 impl Entry {
     pub const LENGTH: usize = 16;
 
+    // A kind is a number and no enum: 16 bytes may carry any, which refusal 5 judges; docs/DECISIONS.md, "Forms", has its numbers as constants.
     pub const PUT: u8 = 1;
 
     pub const DELETE: u8 = 2;
@@ -56,17 +57,17 @@ impl Entry {
         Entry {
             kind: bytes[0],
             fragment: bytes[1],
-            sequence: wire::get16(bytes, 2),
-            transaction: wire::get32(bytes, 4),
-            argument: wire::get16(bytes, 8),
-            spare: wire::get16(bytes, 10),
-            value: wire::get32(bytes, 12),
+            sequence: wire::get(bytes, 2),
+            transaction: wire::get(bytes, 4),
+            argument: wire::get(bytes, 8),
+            spare: wire::get(bytes, 10),
+            value: wire::get(bytes, 12),
         }
     }
 }
 
 // One stream's two counters: its next sequence number and its open epoch.
-#[derive(Clone, Copy)]
+#[derive(Clone, Copy, Debug, PartialEq, Eq)]
 pub struct Counters {
     pub next: u16,
     pub epoch: u32,
@@ -81,8 +82,8 @@ impl Counters {
     }
 }
 
-// Why a call is refused. Each case's number stands in specs/Answers.antt.
-#[derive(Clone, Copy)]
+// Why a call is refused: every call answers a `Result` with it. Each case's number stands in specs/Answers.antt.
+#[derive(Clone, Copy, Debug, PartialEq, Eq)]
 pub enum Refusal {
     NoSuchLot,
     Damaged,
@@ -103,45 +104,9 @@ pub enum Refusal {
     NotAccepted,
 }
 
-// What start, deliver, drop and the overview answer.
-#[derive(Clone, Copy)]
-pub enum Outcome {
-    Done,
-    Refused(Refusal),
-}
-
-// What open and load answer.
-#[derive(Clone, Copy)]
-pub enum Opened {
-    InLot(u32),
-    NotOpened(Refusal),
-}
-
-// What close answers: how many pieces it installed.
-#[derive(Clone, Copy)]
-pub enum Closed {
-    Pieces(u32),
-    NotClosed(Refusal),
-}
-
-// What read answers.
-#[derive(Clone, Copy)]
-pub enum Found {
-    Present(u32),
-    Absent,
-    NotRead(Refusal),
-}
-
-// What save answers: the image's length.
-#[derive(Clone, Copy)]
-pub enum Saved {
-    Length(u32),
-    NotSaved(Refusal),
-}
-
 // An answer as numbers: its own number (0 done, otherwise the refusal's) and two more. specs/Answers.antt says them for
-// each case of each answer.
-#[derive(Clone, Copy)]
+// each answer.
+#[derive(Clone, Copy, Debug, PartialEq, Eq)]
 pub struct Numbers {
     pub number: u32,
     pub first: u32,

@@ -8,15 +8,15 @@ use native.Mathlib.Omega.{arith}
 use lib.Dec.{ltb}
 use lib.ListN.{length, set, drop, length-set}
 use borrow.Author.Tests.{ltb-false}
-use Rattle.std.specs.Prelude.{if◌then◌else◌}
+use Rattle.std.specs.Prelude.{if◌then◌else◌, Ok, Err}
 use Rattle.model.specs.Lists.{upward}
-use Rattle.model.specs.declared.Outcome.TheVariants.{Done, Refused}
 use Rattle.model.specs.declared.Refusal.TheVariants.{NoSuchLot, TooShort}
 use Rattle.lot.specs.Layout.{SIZE}
 use Rattle.lots.specs.Memory.{memory_fits, view_of}
-use Rattle.overview.specs.Overview.{row_of, overview_answer, rows_for, rows_with}
+use Rattle.overview.specs.Overview.{row_of, overview_answer, rows_with}
 use Rattle.overview.specs.declared.Row.{Row}
 use Rattle.lots.proofs.Parts.{memory_long}
+use Rattle.model.proofs.Tests.{no_way}
 
 -- ---- filling in
 
@@ -40,24 +40,18 @@ module _ (m : List ℕ) (ys : List Row) where
   rows_long zero l = refl
   rows_long (suc n) l = ap length (sym (row_more n l)) ∙ length-set (rows_with m ys n) n (row_of (view_of m n)) ∙ rows_long n (le_of_lt l)
 
--- ---- how many
+-- ---- where the overview is answered
 
 module _ (m : List ℕ) (lots n : ℕ) where
-  record Due (d : ℕ) : Type 0 where
-    enough : d ≤ n
-    inside : d * SIZE ≤ length m
+  pub record Filled : Type 0 where
+    pub enough : lots ≤ n
+    pub inside : lots * SIZE ≤ length m
 
-  due : Due (rows_for lots (overview_answer m lots n))
+  pub filled : Ok tt ≡ overview_answer m lots n → Filled
   unfolding overview_answer
-  due = go (memory_fits lots m) (ltb n lots) refl refl
+  filled e = go (memory_fits lots m) (ltb n lots) refl refl e
     where
-      go : (a b : Bool) → memory_fits lots m ≡ a → ltb n lots ≡ b → Due (rows_for lots (if not a then Refused NoSuchLot else if b then Refused TooShort else Done))
-      go false b x y = record { enough = omega arith; inside = omega arith }
-      go true true x y = record { enough = omega arith; inside = omega arith }
-      go true false x y = record { enough = ltb-false n lots y; inside = omega (arith, memory_long lots m x) }
-
-  pub due_enough : rows_for lots (overview_answer m lots n) ≤ n
-  due_enough = due.enough
-
-  pub due_inside : (i : ℕ) → i < rows_for lots (overview_answer m lots n) → i * SIZE + SIZE ≤ length m
-  due_inside i h = omega (arith, h, due.inside)
+      go : (a b : Bool) → memory_fits lots m ≡ a → ltb n lots ≡ b → Ok (tt {0}) ≡ (if not a then Err NoSuchLot else if b then Err TooShort else Ok (tt {0})) → Filled
+      go false b x y e = no_way cc
+      go true true x y e = no_way cc
+      go true false x y e = record { enough = ltb-false n lots y; inside = omega (arith, memory_long lots m x) }

@@ -5,13 +5,13 @@
 ghost use Rattle.std.specs.Prelude.{◌≡◌, ◌+◌, ◌*◌, ◌≤◌, length};
 ghost use Rattle.lot.specs.Layout.{SIZE};
 ghost use Rattle.lots.specs.Memory.{view_of};
-ghost use Rattle.overview.specs.Overview.{row_from, row_of, row_at, overview_answer, rows_for, Overviewed};
+ghost use Rattle.overview.specs.Overview.{row_from, row_of, row_at, overview_answer, Overviewed};
 
 use lot::Look;
-use model::{Outcome, Refusal};
+use model::Refusal;
 
 // One lot's line of the overview, as the desk lends it.
-#[derive(Clone, Copy)]
+#[derive(Clone, Copy, Debug, PartialEq, Eq)]
 pub struct Row {
     pub account: u32,
     pub closed: u32,
@@ -62,39 +62,25 @@ pub fn row_at(memory: &[u8], lots: u32, lot: u32) -> Row
 }
 
 // Refusals 1 and 16, where so many rows are lent.
-pub fn overview_answer(memory: &[u8], lots: u32, rows: usize) -> Outcome
+pub fn overview_answer(memory: &[u8], lots: u32, rows: usize) -> Result<(), Refusal>
     ensures { result ≡ overview_answer memory.now lots rows }
 {
     if !lots::memory_fits(memory, lots) {
-        return Outcome::Refused(Refusal::NoSuchLot);
+        return Err(Refusal::NoSuchLot);
     }
     if rows < lots as usize {
-        return Outcome::Refused(Refusal::TooShort);
+        return Err(Refusal::TooShort);
     }
-    Outcome::Done
-}
-
-// How many rows the overview then fills in.
-pub fn rows_due(memory: &[u8], lots: u32, rows: usize) -> usize
-    ensures { result ≡ rows_for lots (overview_answer memory.now lots rows) }
-{
-    match overview_answer(memory, lots, rows) {
-        Outcome::Done => lots as usize,
-        Outcome::Refused(_) => 0,
-    }
+    Ok(())
 }
 
 // The desk lends one row for each lot, and the call fills them in.
-pub fn overview(memory: &[u8], lots: u32, rows: &mut [Row]) -> Outcome
+pub fn overview(memory: &[u8], lots: u32, rows: &mut [Row]) -> Result<(), Refusal>
     ensures { Overviewed memory.now lots rows.old rows.new result }
 {
-    let lent = rows.len();
-    let n = rows_due(memory, lots, lent);
-    let mut i: usize = 0;
-    while i < n {
-        let row = row_in(memory, i);
-        rows[i] = row;
-        i += 1;
+    overview_answer(memory, lots, rows.len())?;
+    for i in 0..lots as usize {
+        rows[i] = row_in(memory, i);
     }
-    overview_answer(memory, lots, lent)
+    Ok(())
 }

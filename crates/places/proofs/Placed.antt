@@ -6,8 +6,7 @@ use mathlib.Core.Bool.{true, ◌&&◌}
 use mathlib.Core.List.{List, ◌∷◌, ◌++◌}
 use native.Mathlib.Omega.{arith}
 use lib.Dec.{eqb}
-use lib.ListN.{length, get_or, take, drop, replicate, length-append, get_or-append}
-use lib.Seq.{take-length}
+use lib.ListN.{length, get_or, drop, replicate, length-append, get_or-append}
 use borrow.Author.Tests.{eqb-true}
 use Rattle.wire.specs.Numbers.{number16, with16, with32}
 use Rattle.wire.specs.Laws.{Same, length_put16, length_put32, get16_put16, get32_put32, put16_same, put32_same, le16_same, le32_same}
@@ -103,10 +102,9 @@ module _ (e : List ℕ) (n : ℕ) (len : length e ≡ 16) where
 
 -- what `hold_entry` leaves: b1, b2 and b3 are the place as it is filled
 pub hold_is : (h h' e b1 b2 b3 : List ℕ) (n o p : ℕ) → length h ≡ 5120 → n < 256 → length e ≡ 16 → o < 2 ^ 32 → p ≤ n → p ≡ end_of h n (get_or e 1 0)
-    → b1 ≡ take (length e) e ++ drop (length e) (replicate 20 0) → b2 ≡ with16 b1 2 0 → b3 ≡ with32 b2 16 o → h' ≡ inserted h (p * 20) (n * 20) b3 → EntryHeld h h' n e o
+    → b1 ≡ e ++ drop 16 (replicate 20 0) → b2 ≡ with16 b1 2 0 → b3 ≡ with32 b2 16 o → h' ≡ inserted h (p * 20) (n * 20) b3 → EntryHeld h h' n e o
 unfolding placed entry_of every
-hold_is h h' e b1 b2 b3 n o p lh ln le bo lp ep q1 q2 q3 q4 =
-    let w1 : b1 ≡ e ++ drop 16 (replicate 20 0) = q1 ∙ rw (take-length e, le) in
+hold_is h h' e b1 b2 b3 n o p lh ln le bo lp ep w1 q2 q3 q4 =
     let q : h' ≡ inserted h (p * 20) (n * 20) (placed e o) = rw (q4, q3, q2, w1) in
     let z : n ≡ p + (n - p) = omega arith in
     let A = parse p 20 plain_place h in

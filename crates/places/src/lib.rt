@@ -4,35 +4,22 @@
 #![tactic(auto)]
 
 ghost use Rattle.std.specs.Prelude.{◌≡◌, ◌+◌, ◌*◌, ◌≤◌, ◌<◌, length};
-ghost use Rattle.places.specs.Moves.{shifted, inserted};
+ghost use Rattle.places.specs.Moves.{inserted};
 ghost use Rattle.places.specs.Places.{end_of, EntryHeld};
+
+// The section is lent to be written, as bytes and a count: `lookback::Section`, which has both, lends it to be read.
 
 // One past the last of n places whose stream is not above the fragment, and 0 if there is none.
 pub fn end_of(held: &[u8], n: usize, fragment: u8) -> usize
     requires { n * 20 ≤ length held.now }
     ensures { (result ≤ n) × (result ≡ end_of held.now n fragment) }
 {
-    let mut p = n;
-    while p != 0 {
-        let i = p - 1;
+    for i in (0..n).rev() {
         if held[i * 20 + 1] <= fragment {
-            return p;
+            return i + 1;
         }
-        p = i;
     }
     0
-}
-
-// Moves the bytes from start up to end on by one place.
-fn shift(held: &mut [u8], start: usize, end: usize)
-    requires { (start ≤ end) × (end + 20 ≤ length held.old) }
-    ensures { held.new ≡ shifted held.old start end }
-{
-    let mut j = end;
-    while start < j {
-        j -= 1;
-        held[j + 20] = held[j];
-    }
 }
 
 // Puts the 20 bytes of a place in at start, and moves what stood from there up to end on by one place.
@@ -40,9 +27,9 @@ pub fn insert(held: &mut [u8], start: usize, end: usize, place: &[u8])
     requires { (start ≤ end) × (end + 20 ≤ length held.old) × (length place.now ≡ 20) }
     ensures { held.new ≡ inserted held.old start end place.now }
 {
-    shift(held, start, end);
     let next = start + 20;
-    wire::copy(place, &mut held[start..next]);
+    held.copy_within(start..end, next);
+    held[start..next].copy_from_slice(place);
 }
 
 // Holds an entry: its 16 bytes with bytes 2-3 zero, then its epoch.
@@ -51,9 +38,9 @@ pub fn hold_entry(held: &mut [u8], n: usize, entry: &[u8], epoch: u32)
     ensures { EntryHeld held.old held.new n entry.now epoch }
 {
     let mut place = [0; 20];
-    wire::copy(entry, &mut place);
-    wire::put16(&mut place, 2, 0);
-    wire::put32(&mut place, 16, epoch);
+    place[..16].copy_from_slice(entry);
+    wire::put(&mut place, 2, 0u16);
+    wire::put(&mut place, 16, epoch);
     let p = end_of(held, n, entry[1]);
     insert(held, p * 20, n * 20, &place);
 }

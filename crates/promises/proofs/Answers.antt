@@ -2,12 +2,11 @@
 use Prim.Native.Nat.{ℕ}
 use mathlib.Core.Path.{◌≡◌, refl, sym, ap, ◌∙◌}
 use mathlib.Core.Bool.{Bool, true, false, not, ◌&&◌, ◌||◌, or-true}
-use mathlib.Core.Option.{Option, some, none}
 use mathlib.Core.List.{List, [], ◌∷◌, map}
 use lib.Dec.{ltb, eqb}
 use lib.ListN.{length, get_or}
 use borrow.Author.Tests.{eq-eqb}
-use Rattle.std.specs.Prelude.{if◌then◌else◌}
+use Rattle.std.specs.Prelude.{if◌then◌else◌, Option, Some, None, Result, Ok, Err}
 use Rattle.model.specs.Lists.{any, count_below, bits_of}
 use Rattle.model.specs.Entry.{LENGTH, entry_of, fits, inside}
 use Rattle.model.specs.Distance.{below_zero, above_zero}
@@ -20,14 +19,6 @@ use Rattle.model.specs.Decoding.{load}
 use Rattle.model.specs.Answers.{refusal_numbers, outcome_numbers, opened_numbers, closed_numbers, found_numbers, saved_numbers}
 use Rattle.model.specs.declared.Refusal.{Refusal}
 use Rattle.model.specs.declared.Refusal.TheVariants.{NoSuchLot, Damaged, NotThisAccount, WrongLength, Unfit, OutsideAccount, Seen, Gap, WrongMark, OutOfTurn, Full, MarkMissing, AlreadyOpen, NoFreeLot, UnfitAccount, TooShort, NotAccepted}
-use Rattle.model.specs.declared.Outcome.{Outcome}
-use Rattle.model.specs.declared.Outcome.TheVariants.{Done, Refused}
-use Rattle.model.specs.declared.Opened.{Opened}
-use Rattle.model.specs.declared.Opened.TheVariants.{InLot, NotOpened}
-use Rattle.model.specs.declared.Closed.{Closed}
-use Rattle.model.specs.declared.Closed.TheVariants.{Pieces, NotClosed}
-use Rattle.model.specs.declared.Found.TheVariants.{Present, Absent, NotRead}
-use Rattle.model.specs.declared.Saved.TheVariants.{Length, NotSaved}
 use Rattle.model.proofs.Tests.{no_way}
 use Rattle.lot.specs.View.{Lot, free, damaged, holds, account_in}
 use Rattle.lot.specs.Writing.{found_of}
@@ -84,13 +75,13 @@ length_decides m₁ m₂ (overview lots rows) e = rw e
 
 -- ---- the answer's number is that of the first condition that holds
 
-abbrev of_outcome : Outcome → ℕ
+abbrev of_outcome : Result (Unit {0}) Refusal → ℕ
 of_outcome r = (outcome_numbers r).number
 
-abbrev of_opened : Opened → ℕ
+abbrev of_opened : Result ℕ Refusal → ℕ
 of_opened r = (opened_numbers r).number
 
-abbrev of_closed : Closed → ℕ
+abbrev of_closed : Result ℕ Refusal → ℕ
 of_closed r = (closed_numbers r).number
 
 -- 1, 2, 3 of a call that names a lot and an account; `g` is the number of what it answers, by what it finds
@@ -118,15 +109,15 @@ judged a bytes =
   where
     go : (c4 c5 c6 c7 c8 c9 c10 c11 : Bool)
         → of_outcome (
-        if c4 then Refused WrongLength
-        else if c5 then Refused Unfit
-        else if c6 then Refused OutsideAccount
-        else if c7 then Refused Seen
-        else if c8 then Refused Gap
-        else if c9 then Refused WrongMark
-        else if c10 then Refused OutOfTurn
-        else if c11 then Refused Full
-        else Done
+        if c4 then Err WrongLength
+        else if c5 then Err Unfit
+        else if c6 then Err OutsideAccount
+        else if c7 then Err Seen
+        else if c8 then Err Gap
+        else if c9 then Err WrongMark
+        else if c10 then Err OutOfTurn
+        else if c11 then Err Full
+        else Ok tt
         ) ≡ first_met (4 when c4 ∷ 5 when c5 ∷ 6 when c6 ∷ 7 when c7 ∷ 8 when c8 ∷ 9 when c9 ∷ 10 when c10 ∷ 11 when c11 ∷ [])
     go true c5 c6 c7 c8 c9 c10 c11 = refl
     go false true c6 c7 c8 c9 c10 c11 = refl
@@ -143,7 +134,7 @@ closed_first : (a : Account) (room : ℕ) → of_closed (close_of a room) ≡ fi
 unfolding judge_room judge_close first_met
 closed_first a room = go (ltb room LEAST_LIST) (eqb (count_below (missing a) a.fragments) 0)
   where
-    go : (c16 all : Bool) → of_closed (close_judged (if c16 then Refused TooShort else (if all then Done else Refused (MarkMissing (bits_of (missing a) a.fragments) (count_below (missing a) a.fragments)))) (length (listed a))) ≡ first_met (16 when c16 ∷ 12 when not all ∷ [])
+    go : (c16 all : Bool) → of_closed (close_judged (if c16 then Err TooShort else (if all then Ok tt else Err (MarkMissing (bits_of (missing a) a.fragments) (count_below (missing a) a.fragments)))) (length (listed a))) ≡ first_met (16 when c16 ∷ 12 when not all ∷ [])
     go true all = refl
     go false true = refl
     go false false = refl
@@ -153,7 +144,7 @@ placed_first : (m : List ℕ) (lots number : ℕ) → of_opened (place_for m lot
 unfolding place_for first_met
 placed_first m lots number = go (already_open m lots number) (some_below (λ i. is_free (view_of m i)) lots)
   where
-    go : (c13 some : Bool) → of_opened (if c13 then NotOpened AlreadyOpen else if some then InLot (lowest_below (λ i. is_free (view_of m i)) lots) else NotOpened NoFreeLot) ≡ first_met (13 when c13 ∷ 14 when not some ∷ [])
+    go : (c13 some : Bool) → of_opened (if c13 then Err AlreadyOpen else if some then Ok (lowest_below (λ i. is_free (view_of m i)) lots) else Err NoFreeLot) ≡ first_met (13 when c13 ∷ 14 when not some ∷ [])
     go true b = refl
     go false true = refl
     go false false = refl
@@ -162,12 +153,12 @@ pub numbered : (m : List ℕ) (c : Call) → (answer_of m c).number ≡ first_me
 unfolding answer_of conditions first_met start_answer open_answer deliver_answer close_answer read_answer save_answer load_answer drop_answer overview_answer
 numbered m (start lots) = go (memory_fits lots m)
   where
-    go : (t : Bool) → of_outcome (if t then Done else Refused NoSuchLot) ≡ first_met (1 when not t ∷ [])
+    go : (t : Bool) → of_outcome (if t then Ok tt else Err NoSuchLot) ≡ first_met (1 when not t ∷ [])
     go true = refl
     go false = refl
 numbered m (open_account lots number f k) = go (memory_fits lots m) (some_below (λ i. is_damaged (view_of m i)) lots) (account_fits number f k)
   where
-    go : (t c2 fit : Bool) → of_opened (if not t then NotOpened NoSuchLot else if c2 then NotOpened Damaged else if not fit then NotOpened UnfitAccount else place_for m lots number)
+    go : (t c2 fit : Bool) → of_opened (if not t then Err NoSuchLot else if c2 then Err Damaged else if not fit then Err UnfitAccount else place_for m lots number)
         ≡ first_met (1 when not t ∷ 2 when c2 ∷ 15 when not fit ∷ 13 when already_open m lots number ∷ no_free_lot m lots ∷ [])
     go false c2 fit = refl
     go true true fit = refl
@@ -177,37 +168,37 @@ numbered m (deliver lots lot number bytes) = finding m lots lot number (λ x. of
 numbered m (close_epoch lots lot number list) = finding m lots lot number (λ x. of_closed (close_from x (length list))) (λ r. refl) (close_conditions (view_of m lot) (length list)) (λ a q. rw q (closed_first a (length list)))
 numbered m (read_record lots lot number fragment key) = finding m lots lot number (λ x. (found_numbers (read_from x fragment key)).number) (λ r. refl) (outside (view_of m lot) fragment key ∷ []) (λ a q. rw q (go a (ltb fragment a.fragments && ltb key a.keys) ((a.at fragment).records key)))
   where
-    go : (a : Account) (t : Bool) (x : Record) → (found_numbers (if not t then NotRead OutsideAccount else found_of x)).number ≡ first_met (6 when not t ∷ [])
+    go : (a : Account) (t : Bool) (x : Record) → (found_numbers (if not t then Err OutsideAccount else Ok (found_of x))).number ≡ first_met (6 when not t ∷ [])
     go a false x = refl
     go a true absent = refl
     go a true (present v) = refl
 numbered m (save_account lots lot number buffer) = finding m lots lot number (λ x. (saved_numbers (save_from x (length buffer))).number) (λ r. refl) (16 when ltb (length buffer) LONGEST_IMAGE ∷ []) (λ a q. go a (ltb (length buffer) LONGEST_IMAGE))
   where
-    go : (a : Account) (c16 : Bool) → (saved_numbers (if c16 then NotSaved TooShort else Length (length (image a)))).number ≡ first_met (16 when c16 ∷ [])
+    go : (a : Account) (c16 : Bool) → (saved_numbers (if c16 then Err TooShort else Ok (length (image a)))).number ≡ first_met (16 when c16 ∷ [])
     go a true = refl
     go a false = refl
 numbered m (load_account lots given) = go (memory_fits lots m) (some_below (λ i. is_damaged (view_of m i)) lots) (load given)
   where
-    go : (t c2 : Bool) (x : Option Account) → of_opened (if not t then NotOpened NoSuchLot else if c2 then NotOpened Damaged else load_from m lots x)
+    go : (t c2 : Bool) (x : Option Account) → of_opened (if not t then Err NoSuchLot else if c2 then Err Damaged else load_from m lots x)
         ≡ first_met (1 when not t ∷ 2 when c2 ∷ 17 when is_none x ∷ 13 when of_shown x (λ a. already_open m lots a.number) ∷ no_free_lot m lots ∷ [])
     go false c2 x = refl
     go true true x = refl
-    go true false none = refl
-    go true false (some a) = placed_first m lots a.number
+    go true false None = refl
+    go true false (Some a) = placed_first m lots a.number
 numbered m (drop_account lots lot number) = go (lot_fits lots lot m) (view_of m lot)
   where
-    mine : (b : Bool) → of_outcome (if b then Done else Refused NotThisAccount) ≡ first_met (3 when not b ∷ [])
+    mine : (b : Bool) → of_outcome (if b then Ok tt else Err NotThisAccount) ≡ first_met (3 when not b ∷ [])
     mine true = refl
     mine false = refl
 
-    go : (t : Bool) (v : Lot) → of_outcome (if not t then Refused NoSuchLot else drop_from v number) ≡ first_met (1 when not t ∷ 3 when free_or_other number v ∷ [])
+    go : (t : Bool) (v : Lot) → of_outcome (if not t then Err NoSuchLot else drop_from v number) ≡ first_met (1 when not t ∷ 3 when free_or_other number v ∷ [])
     go false v = refl
     go true free = refl
     go true damaged = refl
     go true (holds a) = mine (eqb a.number number)
 numbered m (overview lots rows) = go (memory_fits lots m) (ltb (length rows) lots)
   where
-    go : (t c16 : Bool) → of_outcome (if not t then Refused NoSuchLot else if c16 then Refused TooShort else Done) ≡ first_met (1 when not t ∷ 16 when c16 ∷ [])
+    go : (t c16 : Bool) → of_outcome (if not t then Err NoSuchLot else if c16 then Err TooShort else Ok tt) ≡ first_met (1 when not t ∷ 16 when c16 ∷ [])
     go false c16 = refl
     go true true = refl
     go true false = refl
@@ -252,19 +243,19 @@ others_zero TooShort e = (refl, refl)
 others_zero NotAccepted e = (refl, refl)
 
 plain : (r : Reply) → is_done r ≡ false → eqb (reply_numbers r).number 12 ≡ false → ((reply_numbers r).first ≡ 0) × ((reply_numbers r).second ≡ 0)
-plain (outcome Done) u e = no_way (sym u)
-plain (outcome (Refused s)) u e = others_zero s e
-plain (opened (InLot i)) u e = no_way (sym u)
-plain (opened (NotOpened s)) u e = others_zero s e
-plain (closed (Pieces n) l) u e = no_way (sym u)
-plain (closed (NotClosed s) l) u e = others_zero s e
-plain (found-reply (Present v)) u e = no_way (sym u)
-plain (found-reply Absent) u e = no_way (sym u)
-plain (found-reply (NotRead s)) u e = others_zero s e
-plain (saved (Length n) b) u e = no_way (sym u)
-plain (saved (NotSaved s) b) u e = others_zero s e
-plain (overviewed Done rows) u e = no_way (sym u)
-plain (overviewed (Refused s) rows) u e = others_zero s e
+plain (outcome (Ok _)) u e = no_way (sym u)
+plain (outcome (Err s)) u e = others_zero s e
+plain (opened (Ok i)) u e = no_way (sym u)
+plain (opened (Err s)) u e = others_zero s e
+plain (closed (Ok n) l) u e = no_way (sym u)
+plain (closed (Err s) l) u e = others_zero s e
+plain (found-reply (Ok (Some v))) u e = no_way (sym u)
+plain (found-reply (Ok None)) u e = no_way (sym u)
+plain (found-reply (Err s)) u e = others_zero s e
+plain (saved (Ok n) b) u e = no_way (sym u)
+plain (saved (Err s) b) u e = others_zero s e
+plain (overviewed (Ok _) rows) u e = no_way (sym u)
+plain (overviewed (Err s) rows) u e = others_zero s e
 
 pub known_answers : {m m' : List ℕ} {c : Call} {r : Reply} → Step m c r m' → Known c (reply_numbers r)
 known_answers {m} {c = c} {r = r} w = record { listed = rw (refused_exactly w, ← in_order_law m c) (first_listed (conditions m c)); others = plain r }

@@ -7,16 +7,10 @@ use native.Mathlib.Omega.{arith}
 use native.Mathlib.Decide.{dec_lt}
 use lib.Dec.{eqb}
 use lib.ListN.{length, drop_of_length-le}
-use Rattle.std.specs.Prelude.{if◌then◌else◌}
+use Rattle.std.specs.Prelude.{if◌then◌else◌, Result, Ok, Err}
 use Rattle.model.specs.Answers.{refusal_numbers}
 use Rattle.model.specs.declared.Refusal.{Refusal}
 use Rattle.model.specs.declared.Refusal.TheVariants.{NoSuchLot}
-use Rattle.model.specs.declared.Outcome.{Outcome}
-use Rattle.model.specs.declared.Outcome.TheVariants.{Done, Refused}
-use Rattle.model.specs.declared.Opened.{Opened}
-use Rattle.model.specs.declared.Opened.TheVariants.{InLot, NotOpened}
-use Rattle.model.specs.declared.Closed.{Closed}
-use Rattle.model.specs.declared.Closed.TheVariants.{Pieces, NotClosed}
 use Rattle.model.proofs.Tests.{no_way}
 use Rattle.lot.specs.Layout.{SIZE}
 use Rattle.lot.specs.View.{view_lot}
@@ -40,39 +34,39 @@ either_same false m = refl
 pub no_lot : (m : List ℕ) (lots i : ℕ) → length m ≡ lots * SIZE → lots ≤ i → lot_of m i ≡ []
 no_lot m lots i e h = rw (drop_of_length-le m {i = i * SIZE} (omega arith))
 
-pub started_fits : {m m' : List ℕ} {lots : ℕ} → Started m m' lots Done → memory_fits lots m ≡ true
+pub started_fits : {m m' : List ℕ} {lots : ℕ} → Started m m' lots (Ok tt) → memory_fits lots m ≡ true
 unfolding start_answer
 started_fits {m} {m'} {lots} w = go (memory_fits lots m) w.answer
   where
-    go : (t : Bool) → Done ≡ (if t then Done else Refused NoSuchLot) → t ≡ true
+    go : (t : Bool) → Ok (tt {0}) ≡ (if t then Ok (tt {0}) else Err NoSuchLot) → t ≡ true
     go true e = refl
     go false e = no_way cc
 
 -- ---- the laws of the single calls, by where a call writes
 
 module _ (m₁ m₂ : List ℕ) where
-  by_outcome : (i : ℕ) (r : Outcome) → SameAfter i r m₁ m₂ → Same (if is_done (outcome r) then in_lot i else nowhere) m₁ m₂
-  by_outcome i Done s = s
-  by_outcome i (Refused t) s = idle_same t _ m₁ m₂ s
+  by_outcome : (i : ℕ) (r : Result (Unit {0}) Refusal) → SameAfter i r m₁ m₂ → Same (if is_done (outcome r) then in_lot i else nowhere) m₁ m₂
+  by_outcome i (Ok _) s = s
+  by_outcome i (Err t) s = idle_same t _ m₁ m₂ s
 
-  by_opened : (r : Opened) → SameOpen r m₁ m₂ → Same (if is_done (opened r) then in_lot (reply_numbers (opened r)).first else nowhere) m₁ m₂
-  by_opened (InLot i) s = s
-  by_opened (NotOpened t) s = idle_same t _ m₁ m₂ s
+  by_opened : (r : Result ℕ Refusal) → SameOpen r m₁ m₂ → Same (if is_done (opened r) then in_lot (reply_numbers (opened r)).first else nowhere) m₁ m₂
+  by_opened (Ok i) s = s
+  by_opened (Err t) s = idle_same t _ m₁ m₂ s
 
-  by_closed : (i : ℕ) (r : Closed) (list : List ℕ) → SameClose i r m₁ m₂ → Same (if is_done (closed r list) then in_lot i else nowhere) m₁ m₂
-  by_closed i (Pieces n) list s = s
-  by_closed i (NotClosed t) list s = idle_same t _ m₁ m₂ s
+  by_closed : (i : ℕ) (r : Result ℕ Refusal) (list : List ℕ) → SameClose i r m₁ m₂ → Same (if is_done (closed r list) then in_lot i else nowhere) m₁ m₂
+  by_closed i (Ok n) list s = s
+  by_closed i (Err t) list s = idle_same t _ m₁ m₂ s
 
-  by_started : {m : List ℕ} {lots : ℕ} (r : Outcome) → Started m m₁ lots r → Started m m₂ lots r → SameStart lots r m₁ m₂ → Same (if is_done (outcome r) then in_all_lots else nowhere) m₁ m₂
+  by_started : {m : List ℕ} {lots : ℕ} (r : Result (Unit {0}) Refusal) → Started m m₁ lots r → Started m m₂ lots r → SameStart lots r m₁ m₂ → Same (if is_done (outcome r) then in_all_lots else nowhere) m₁ m₂
   unfolding view_of
-  by_started {m} {lots} Done u w s =
+  by_started {m} {lots} (Ok _) u w s =
       let long₁ : length m₁ ≡ lots * SIZE = u.freed.long ∙ memory_long lots m (started_fits u) in
       (s.0, λ i. go i (s.0 ∙ long₁) long₁ (dec_lt i lots))
     where
       go : (i : ℕ) → length m₂ ≡ lots * SIZE → length m₁ ≡ lots * SIZE → Dec (i < lots) → view_lot (lot_of m₂ i) ≡ view_lot (lot_of m₁ i)
       go i l₂ l₁ (yes h) = s.1 i h
       go i l₂ l₁ (no h) = ap view_lot (no_lot m₂ lots i l₂ (omega arith) ∙ sym (no_lot m₁ lots i l₁ (omega arith)))
-  by_started (Refused t) u w s = idle_same t _ m₁ m₂ s
+  by_started (Err t) u w s = idle_same t _ m₁ m₂ s
 
 pub same_steps : {m m₁ m₂ : List ℕ} {c : Call} {r₁ r₂ : Reply} → Step m c r₁ m₁ → Step m c r₂ m₂ → (r₂ ≡ r₁) × Same (writes c r₁) m₁ m₂
 same_steps (starts {m' = m₁} {r = r} u) (starts {m' = m₂} w) = let s = started_same u w in (ap outcome s.0, by_started m₁ m₂ r u (rw s.0 at w) s.1)

@@ -1,5 +1,5 @@
 -- Every answer is in range: its number is at most 17, and its first number at most the longest image's length. So its parts come back from the 64 bits that C gets. Assumes nothing.
-use Prim.Native.Nat.{ℕ, zero, suc, ◌+◌, ◌≤◌, ◌<◌}
+use Prim.Native.Nat.{ℕ, suc, ◌+◌, ◌≤◌, ◌<◌}
 use mathlib.Core.Path.{◌≡◌, refl, sym, ap, ◌∙◌}
 use mathlib.Core.Bool.{Bool, true, false, not, ◌&&◌, ◌||◌, and-false}
 use mathlib.Core.List.{List, [], ◌∷◌, map}
@@ -8,7 +8,7 @@ use lib.Dec.{leb, ltb, eqb}
 use lib.ListN.{length, length-append, length-map}
 use lib.Pow.{pow_mono}
 use borrow.Author.Tests.{eqb-true, leb-true}
-use Rattle.std.specs.Prelude.{if◌then◌else◌}
+use Rattle.std.specs.Prelude.{if◌then◌else◌, Option, Some, None, Result, Ok, Err}
 use Rattle.model.specs.Lists.{filter, any, all, sum_below, count_below, bits_of}
 use Rattle.model.specs.Entry.{P, CC, CP}
 use Rattle.model.specs.Account.{Held, Account, account_fits, held_count, Named, refused, found}
@@ -18,13 +18,6 @@ use Rattle.model.specs.Image.{image, LONGEST_IMAGE}
 use Rattle.model.specs.Answers.{refusal_numbers, outcome_numbers, opened_numbers, closed_numbers, found_numbers, saved_numbers}
 use Rattle.model.specs.declared.Refusal.{Refusal}
 use Rattle.model.specs.declared.Refusal.TheVariants.{NoSuchLot, Damaged, NotThisAccount, MarkMissing, TooShort}
-use Rattle.model.specs.declared.Outcome.{Outcome}
-use Rattle.model.specs.declared.Outcome.TheVariants.{Done, Refused}
-use Rattle.model.specs.declared.Opened.{Opened}
-use Rattle.model.specs.declared.Opened.TheVariants.{InLot, NotOpened}
-use Rattle.model.specs.declared.Found.{Found}
-use Rattle.model.specs.declared.Found.TheVariants.{Present, Absent, NotRead}
-use Rattle.model.specs.declared.Saved.TheVariants.{Length, NotSaved}
 use Rattle.model.proofs.Tests.{no_way, and_r, nth, any_out, all_in}
 use Rattle.model.proofs.Sums.{sum_most}
 use Rattle.model.proofs.Buckets.{length_upward}
@@ -120,7 +113,7 @@ of_close : (room : ℕ) (a : Account) → WellFormed a → (closed_numbers (clos
 unfolding judge_room judge_close account_fits
 of_close room a ok = go (ltb room LEAST_LIST) (eqb (count_below (missing a) a.fragments) 0)
   where
-    go : (short all : Bool) → (closed_numbers (close_judged (if short then Refused TooShort else (if all then Done else Refused (MarkMissing (bits_of (missing a) a.fragments) (count_below (missing a) a.fragments)))) (length (listed a)))).first ≤ LONGEST_IMAGE
+    go : (short all : Bool) → (closed_numbers (close_judged (if short then Err TooShort else (if all then Ok tt else Err (MarkMissing (bits_of (missing a) a.fragments) (count_below (missing a) a.fragments)))) (length (listed a)))).first ≤ LONGEST_IMAGE
     go true all = omega arith
     go false true = omega (arith, pieces_held a, ok.room)
     go false false = omega (arith, bits_lt (missing a) a.fragments, pow_mono (leb-true a.fragments 8 (nth _ ok.fits 3)))
@@ -128,24 +121,24 @@ of_close room a ok = go (ltb room LEAST_LIST) (eqb (count_below (missing a) a.fr
 of_save : (room : ℕ) (a : Account) → WellFormed a → (saved_numbers (save_from (found a) room)).first ≤ LONGEST_IMAGE
 of_save room a ok = go (ltb room LONGEST_IMAGE)
   where
-    go : (short : Bool) → (saved_numbers (if short then NotSaved TooShort else Length (length (image a)))).first ≤ LONGEST_IMAGE
+    go : (short : Bool) → (saved_numbers (if short then Err TooShort else Ok (length (image a)))).first ≤ LONGEST_IMAGE
     go true = omega arith
     go false = longest ok
 
 -- ---- .. and of the others, which are never answered 12
 
-of_outcome : (r : Outcome) → eqb (outcome_numbers r).number 12 ≡ false → (outcome_numbers r).first ≤ LONGEST_IMAGE
-of_outcome Done e = omega arith
-of_outcome (Refused s) e = omega (arith, (others_zero s e).0)
+of_outcome : (r : Result (Unit {0}) Refusal) → eqb (outcome_numbers r).number 12 ≡ false → (outcome_numbers r).first ≤ LONGEST_IMAGE
+of_outcome (Ok _) e = omega arith
+of_outcome (Err s) e = omega (arith, (others_zero s e).0)
 
-of_read : (r : Found) → eqb (found_numbers r).number 12 ≡ false → (found_numbers r).first ≤ LONGEST_IMAGE
-of_read (Present value) e = omega arith
-of_read Absent e = omega arith
-of_read (NotRead s) e = omega (arith, (others_zero s e).0)
+of_read : (r : Result (Option ℕ) Refusal) → eqb (found_numbers r).number 12 ≡ false → (found_numbers r).first ≤ LONGEST_IMAGE
+of_read (Ok (Some value)) e = omega arith
+of_read (Ok None) e = omega arith
+of_read (Err s) e = omega (arith, (others_zero s e).0)
 
-of_opening : (r : Opened) → ((i : ℕ) → InLot i ≡ r → i < MOST_LOTS) → eqb (opened_numbers r).number 12 ≡ false → (opened_numbers r).first ≤ LONGEST_IMAGE
-of_opening (InLot i) below e = omega (arith, below i refl)
-of_opening (NotOpened s) below e = omega (arith, (others_zero s e).0)
+of_opening : (r : Result ℕ Refusal) → ((i : ℕ) → Ok i ≡ r → i < MOST_LOTS) → eqb (opened_numbers r).number 12 ≡ false → (opened_numbers r).first ≤ LONGEST_IMAGE
+of_opening (Ok i) below e = omega (arith, below i refl)
+of_opening (Err s) below e = omega (arith, (others_zero s e).0)
 
 lot_below : {m : List ℕ} {lots number i : ℕ} → Placed m lots number i → i < MOST_LOTS
 unfolding memory_fits

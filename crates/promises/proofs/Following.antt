@@ -6,7 +6,7 @@ use mathlib.Core.List.{List, [], ◌∷◌, ◌++◌}
 use lib.Dec.{eqb}
 use lib.ListN.{length}
 use borrow.Author.Tests.{eqb-true}
-use Rattle.std.specs.Prelude.{if◌then◌else◌}
+use Rattle.std.specs.Prelude.{if◌then◌else◌, Result, Ok, Err}
 use Rattle.model.specs.Entry.{LENGTH, entry_of}
 use Rattle.model.specs.Account.{Account, fresh, Named, refused, found}
 use Rattle.model.specs.Taking as taking
@@ -14,13 +14,9 @@ use Rattle.model.specs.Taking.{judge_entry, judge, deliver_to}
 use Rattle.model.specs.Closing.{Piece, close, listed}
 use Rattle.model.specs.Runs as model
 use Rattle.model.specs.Runs.{run, lists, Allowed}
-use Rattle.model.specs.declared.Outcome.{Outcome}
-use Rattle.model.specs.declared.Outcome.TheVariants.{Done, Refused}
-use Rattle.model.specs.declared.Opened.TheVariants.{InLot}
-use Rattle.model.specs.declared.Closed.{Closed}
-use Rattle.model.specs.declared.Closed.TheVariants.{Pieces, NotClosed}
 use Rattle.model.specs.declared.Refusal.TheVariants.{WrongLength}
 use Rattle.model.proofs.Tests.{no_way, and_l, and_r}
+use Rattle.model.specs.declared.Refusal.{Refusal}
 use Rattle.lot.specs.View.{view_lot, holds}
 use Rattle.lots.specs.Memory.{view_of, named}
 use Rattle.standby.specs.Calls.{Delivered, deliver_answer, TakenBy}
@@ -81,28 +77,28 @@ pub record Adds (lot : ℕ) (ss : List model.Step) (ls : List (List Piece)) (a :
   pub allowed : Allowed ss a
   pub listed : ls ≡ lists ss a
 
-judged_entry : (a : Account) (entry : List ℕ) → Done ≡ judge a entry → judge_entry a (entry_of entry) ≡ Done
+judged_entry : (a : Account) (entry : List ℕ) → Ok tt ≡ judge a entry → judge_entry a (entry_of entry) ≡ Ok tt
 unfolding judge
 judged_entry a entry e = go (eqb (length entry) LENGTH) e
   where
-    go : (b : Bool) → Done ≡ (if not b then Refused WrongLength else judge_entry a (entry_of entry)) → judge_entry a (entry_of entry) ≡ Done
+    go : (b : Bool) → Ok tt ≡ (if not b then Err WrongLength else judge_entry a (entry_of entry)) → judge_entry a (entry_of entry) ≡ Ok tt
     go false e = no_way cc
     go true e = sym e
 
 module _ (m : List ℕ) {number lot : ℕ} {a : Account} (h : Holding number lot m a) where
-  delivered : {m' : List ℕ} {lots : ℕ} {entry : List ℕ} {r : Outcome} → Delivered m m' lots lot number entry r → Adds lot (taken entry r) [] a m'
+  delivered : {m' : List ℕ} {lots : ℕ} {entry : List ℕ} {r : Result (Unit {0}) Refusal} → Delivered m m' lots lot number entry r → Adds lot (taken entry r) [] a m'
   unfolding deliver_answer run lists Allowed
   delivered {m'} {lots} {entry} {r} w = go r (named m lots lot number) refl w.answer w.taken
     where
-      go : (r : Outcome) (n : Named) → named m lots lot number ≡ n → r ≡ deliver_to n entry → TakenBy m m' lot entry r → Adds lot (taken entry r) [] a m'
-      go Done (refused s) q e u = no_way cc
-      go Done (found b) q e u = record { held = u.1 a h.held; allowed = (judged_entry a entry (e ∙ ap (λ c. judge c entry) (same_account m lots lot number h.held q)), tt); listed = refl }
-      go (Refused s) n q e u = record { held = rw u h.held; allowed = tt; listed = refl }
+      go : (r : Result (Unit {0}) Refusal) (n : Named) → named m lots lot number ≡ n → r ≡ deliver_to n entry → TakenBy m m' lot entry r → Adds lot (taken entry r) [] a m'
+      go (Ok _) (refused s) q e u = no_way cc
+      go (Ok _) (found b) q e u = record { held = u.1 a h.held; allowed = (judged_entry a entry (e ∙ ap (λ c. judge c entry) (same_account m lots lot number h.held q)), tt); listed = refl }
+      go (Err s) n q e u = record { held = rw u h.held; allowed = tt; listed = refl }
 
-  closed : {m' : List ℕ} {lots : ℕ} {list list' : List ℕ} {r : Closed} → EpochClosed m m' lots lot number list list' r → Adds lot (closing r) (listing r list') a m'
+  closed : {m' : List ℕ} {lots : ℕ} {list list' : List ℕ} {r : Result ℕ Refusal} → EpochClosed m m' lots lot number list list' r → Adds lot (closing r) (listing r list') a m'
   unfolding run lists Allowed
-  closed {r = Pieces count} w = let c = closed_by_model m h w in record { held = c.held; allowed = (c.possible, tt); listed = ap (λ l. l ∷ []) c.pieces }
-  closed {r = NotClosed s} w = record { held = rw w.closed.0 h.held; allowed = tt; listed = refl }
+  closed {r = Ok count} w = let c = closed_by_model m h w in record { held = c.held; allowed = (c.possible, tt); listed = ap (λ l. l ∷ []) c.pieces }
+  closed {r = Err s} w = record { held = rw w.closed.0 h.held; allowed = tt; listed = refl }
 
   -- the other two write nothing in the memory
   unchanged : Adds lot [] [] a m
@@ -159,11 +155,11 @@ pub opened_followed : {number f k lot : ℕ} {rest : List Turn} {m' : List ℕ} 
 unfolding fresh
 opened_followed {number} {f} {k} {lot} {rest} {m'} w = go w.runs
   where
-    go : Run w.m (record { call = open_account w.lots number f k; reply = opened (InLot lot) } ∷ rest) m' → Followed number lot rest (fresh number f k) m'
+    go : Run w.m (record { call = open_account w.lots number f k; reply = opened (Ok lot) } ∷ rest) m' → Followed number lot rest (fresh number f k) m'
     go (goes (opens u) us) = followed (record { held = u.opened.1; numbered = refl }) us w.kept
 
 -- so each close of a run is the model's: what was accepted and closed before it is the account that it closes
-pub each_close : {number f k lot : ℕ} {before : List Turn} {m m' : List ℕ} {lots count : ℕ} {list list' : List ℕ} → OpenedRun number f k lot before m → Step m (close_epoch lots lot number list) (runs.closed (Pieces count) list') m'
+pub each_close : {number f k lot : ℕ} {before : List Turn} {m m' : List ℕ} {lots count : ℕ} {list list' : List ℕ} → OpenedRun number f k lot before m → Step m (close_epoch lots lot number list) (runs.closed (Ok count) list') m'
     → ClosedByModel number lot (run (steps_in number lot before) (fresh number f k)) count list list' m'
 unfolding fresh
 each_close {number} {f} {k} {lot} {before} o s = close_is_the_models (record { held = (opened_followed o).held; numbered = run_number (steps_in number lot before) (fresh number f k) }) s

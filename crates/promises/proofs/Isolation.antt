@@ -10,19 +10,14 @@ use mathlib.Core.List.{List, [], ◌∷◌}
 use lib.Dec.{eqb}
 use lib.ListN.{length}
 use borrow.Author.Tests.{eq-eqb, eqb-true}
-use Rattle.std.specs.Prelude.{if◌then◌else◌}
+use Rattle.std.specs.Prelude.{if◌then◌else◌, Result, Ok, Err}
 use Rattle.model.specs.Entry.{entry_of}
 use Rattle.model.specs.Account.{Account, Named, refused, found}
 use Rattle.model.specs.Taking.{taken, deliver_to}
 use Rattle.model.specs.Closing.{close, close_from}
 use Rattle.model.specs.declared.Refusal.TheVariants.{NoSuchLot, NotThisAccount}
-use Rattle.model.specs.declared.Outcome.{Outcome}
-use Rattle.model.specs.declared.Outcome.TheVariants.{Done, Refused}
-use Rattle.model.specs.declared.Closed.{Closed}
-use Rattle.model.specs.declared.Closed.TheVariants.{Pieces, NotClosed}
-use Rattle.model.specs.declared.Saved.{Saved}
-use Rattle.model.specs.declared.Saved.TheVariants.{Length, NotSaved}
 use Rattle.model.proofs.Tests.{no_way, and_l}
+use Rattle.model.specs.declared.Refusal.{Refusal}
 use Rattle.lot.specs.View.{Lot, free, damaged, holds, view_lot}
 use Rattle.lots.specs.Memory.{memory_fits, lot_fits, lot_of, view_of, named}
 use Rattle.lots.proofs.Named.{holder}
@@ -51,42 +46,42 @@ module _ {number lot : ℕ} {m : List ℕ} {a : Account} (h : Holding number lot
   found_elsewhere : (lots i n : ℕ) {b : Account} → named m lots i n ≡ found b → names number lot i n ≡ false → lot ≢ i
   found_elsewhere lots i n q o e = let w = holder m lots i n q in no_way (sym o ∙ same_number e w.held w.numbered)
 
-  deliver_leaves : {m' : List ℕ} {lots i n : ℕ} {entry : List ℕ} {r : Outcome} → Delivered m m' lots i n entry r → names number lot i n ≡ false → lot_of m' lot ≡ lot_of m lot
+  deliver_leaves : {m' : List ℕ} {lots i n : ℕ} {entry : List ℕ} {r : Result (Unit {0}) Refusal} → Delivered m m' lots i n entry r → names number lot i n ≡ false → lot_of m' lot ≡ lot_of m lot
   unfolding deliver_answer
   deliver_leaves {m'} {lots} {i} {n} {entry} {r} w o = go r (named m lots i n) refl w.answer w.taken
     where
-      go : (r : Outcome) (x : Named) → named m lots i n ≡ x → r ≡ deliver_to x entry → TakenBy m m' i entry r → lot_of m' lot ≡ lot_of m lot
-      go Done (refused s) q e u = no_way cc
-      go Done (found b) q e u = others_stay u.0 lot (found_elsewhere lots i n q o)
-      go (Refused s) x q e u = rw u
+      go : (r : Result (Unit {0}) Refusal) (x : Named) → named m lots i n ≡ x → r ≡ deliver_to x entry → TakenBy m m' i entry r → lot_of m' lot ≡ lot_of m lot
+      go (Ok _) (refused s) q e u = no_way cc
+      go (Ok _) (found b) q e u = others_stay u.0 lot (found_elsewhere lots i n q o)
+      go (Err s) x q e u = rw u
 
-  close_leaves : {m' : List ℕ} {lots i n : ℕ} {list list' : List ℕ} {r : Closed} → EpochClosed m m' lots i n list list' r → names number lot i n ≡ false → lot_of m' lot ≡ lot_of m lot
+  close_leaves : {m' : List ℕ} {lots i n : ℕ} {list list' : List ℕ} {r : Result ℕ Refusal} → EpochClosed m m' lots i n list list' r → names number lot i n ≡ false → lot_of m' lot ≡ lot_of m lot
   unfolding close_answer
   close_leaves {m'} {lots} {i} {n} {list} {list'} {r} w o = go r (named m lots i n) refl w.answer w.closed
     where
-      go : (r : Closed) (x : Named) → named m lots i n ≡ x → r ≡ close_from x (length list) → ClosedAs m m' i list list' r → lot_of m' lot ≡ lot_of m lot
-      go (Pieces count) (refused s) q e u = no_way cc
-      go (Pieces count) (found b) q e u = others_stay u.0 lot (found_elsewhere lots i n q o)
-      go (NotClosed s) x q e u = rw u.0
+      go : (r : Result ℕ Refusal) (x : Named) → named m lots i n ≡ x → r ≡ close_from x (length list) → ClosedAs m m' i list list' r → lot_of m' lot ≡ lot_of m lot
+      go (Ok count) (refused s) q e u = no_way cc
+      go (Ok count) (found b) q e u = others_stay u.0 lot (found_elsewhere lots i n q o)
+      go (Err s) x q e u = rw u.0
 
-  drop_leaves : {m' : List ℕ} {lots i n : ℕ} {r : Outcome} → Dropped m m' lots i n r → names number lot i n ≡ false → lot_of m' lot ≡ lot_of m lot
+  drop_leaves : {m' : List ℕ} {lots i n : ℕ} {r : Result (Unit {0}) Refusal} → Dropped m m' lots i n r → names number lot i n ≡ false → lot_of m' lot ≡ lot_of m lot
   unfolding drop_answer
   drop_leaves {m'} {lots} {i} {n} {r} w o = go r (lot_fits lots i m) w.answer w.freed
     where
       -- a damaged lot and one that holds the account named are freed
-      apart : (v : Lot) → view_of m i ≡ v → Done ≡ drop_from v n → lot ≢ i
+      apart : (v : Lot) → view_of m i ≡ v → Ok tt ≡ drop_from v n → lot ≢ i
       apart free q e d = no_way cc
       apart damaged q e d = no_way (let t : holds a ≡ damaged = sym h.held ∙ ap (view_of m) d ∙ q in cc)
       apart (holds b) q e d = mine (eqb b.number n) refl e
         where
-          mine : (t : Bool) → eqb b.number n ≡ t → Done ≡ (if t then Done else Refused NotThisAccount) → ⊥
+          mine : (t : Bool) → eqb b.number n ≡ t → Ok (tt {0}) ≡ (if t then Ok (tt {0}) else Err NotThisAccount) → ⊥
           mine true s e = no_way (sym o ∙ same_number d q (eqb-true b.number n s))
           mine false s e = no_way cc
 
-      go : (r : Outcome) (t : Bool) → r ≡ (if not t then Refused NoSuchLot else drop_from (view_of m i) n) → Freed m m' i r → lot_of m' lot ≡ lot_of m lot
-      go Done false e u = no_way cc
-      go Done true e u = others_stay u.0 lot (apart (view_of m i) refl e)
-      go (Refused s) t e u = rw u
+      go : (r : Result (Unit {0}) Refusal) (t : Bool) → r ≡ (if not t then Err NoSuchLot else drop_from (view_of m i) n) → Freed m m' i r → lot_of m' lot ≡ lot_of m lot
+      go (Ok _) false e u = no_way cc
+      go (Ok _) true e u = others_stay u.0 lot (apart (view_of m i) refl e)
+      go (Err s) t e u = rw u
 
   unending_leaves : {m' : List ℕ} {c : Call} {r : Reply} → Step m c r m' → is_own number lot c ≡ false → is_end number lot c ≡ false → lot_of m' lot ≡ lot_of m lot
   unfolding is_own is_end
@@ -119,31 +114,31 @@ module _ {lot : ℕ} {m₁ m₂ : List ℕ} (g : Agree lot m₁ m₂) where
   unfolding named
   finds_same lots number = rw (fits_same lots, g.same)
 
-  delivers_same : {m₁' m₂' : List ℕ} {lots n : ℕ} {entry : List ℕ} {r₁ r₂ : Outcome}
+  delivers_same : {m₁' m₂' : List ℕ} {lots n : ℕ} {entry : List ℕ} {r₁ r₂ : Result (Unit {0}) Refusal}
       → Delivered m₁ m₁' lots lot n entry r₁ → Delivered m₂ m₂' lots lot n entry r₂ → (r₂ ≡ r₁) × Agree lot m₁' m₂'
   unfolding deliver_answer
   delivers_same {m₁'} {m₂'} {lots} {n} {entry} {r₁} {r₂} u w =
       let e : r₂ ≡ r₁ = w.answer ∙ rw (finds_same lots n) (sym u.answer) in
       (e, go r₁ (named m₁ lots lot n) refl u.answer u.taken (rw e at w.taken))
     where
-      go : (r : Outcome) (x : Named) → named m₁ lots lot n ≡ x → r ≡ deliver_to x entry → TakenBy m₁ m₁' lot entry r → TakenBy m₂ m₂' lot entry r → Agree lot m₁' m₂'
-      go Done (refused s) q e u w = no_way cc
-      go Done (found a) q e u w =
+      go : (r : Result (Unit {0}) Refusal) (x : Named) → named m₁ lots lot n ≡ x → r ≡ deliver_to x entry → TakenBy m₁ m₁' lot entry r → TakenBy m₂ m₂' lot entry r → Agree lot m₁' m₂'
+      go (Ok _) (refused s) q e u w = no_way cc
+      go (Ok _) (found a) q e u w =
           let h = (holder m₁ lots lot n q).held in
           record { long = w.0.long ∙ g.long ∙ sym u.0.long; same = w.1 a (g.same ∙ h) ∙ sym (u.1 a h) }
-      go (Refused s) x q e u w = rw (w, u) g
+      go (Err s) x q e u w = rw (w, u) g
 
-  closes_same : {m₁' m₂' : List ℕ} {lots n : ℕ} {list list₁ list₂ : List ℕ} {r₁ r₂ : Closed}
+  closes_same : {m₁' m₂' : List ℕ} {lots n : ℕ} {list list₁ list₂ : List ℕ} {r₁ r₂ : Result ℕ Refusal}
       → EpochClosed m₁ m₁' lots lot n list list₁ r₁ → EpochClosed m₂ m₂' lots lot n list list₂ r₂ → (closed r₂ list₂ ≡ closed r₁ list₁) × Agree lot m₁' m₂'
   closes_same {m₁'} {m₂'} {lots} {n} {list} {list₁} {list₂} {r₁} u w =
       let s = closed_alike (finds_same lots n) g.same u w in
       (rw (s.answer, s.list), record { long = long_after r₁ u.closed (rw s.answer at w.closed); same = s.account })
     where
-      long_after : (r : Closed) → ClosedAs m₁ m₁' lot list list₁ r → ClosedAs m₂ m₂' lot list list₂ r → length m₂' ≡ length m₁'
-      long_after (Pieces count) u w = w.0.long ∙ g.long ∙ sym u.0.long
-      long_after (NotClosed s) u w = rw (w.0, u.0) g.long
+      long_after : (r : Result ℕ Refusal) → ClosedAs m₁ m₁' lot list list₁ r → ClosedAs m₂ m₂' lot list list₂ r → length m₂' ≡ length m₁'
+      long_after (Ok count) u w = w.0.long ∙ g.long ∙ sym u.0.long
+      long_after (Err s) u w = rw (w.0, u.0) g.long
 
-  saves_same : {lots n : ℕ} {buffer buffer₁ buffer₂ : List ℕ} {r₁ r₂ : Saved}
+  saves_same : {lots n : ℕ} {buffer buffer₁ buffer₂ : List ℕ} {r₁ r₂ : Result ℕ Refusal}
       → AccountSaved m₁ lots lot n buffer buffer₁ r₁ → AccountSaved m₂ lots lot n buffer buffer₂ r₂ → saved r₂ buffer₂ ≡ saved r₁ buffer₁
   unfolding save_answer
   saves_same {lots} {n} {buffer} {buffer₁} {buffer₂} {r₁} {r₂} u w =
@@ -151,21 +146,21 @@ module _ {lot : ℕ} {m₁ m₂ : List ℕ} (g : Agree lot m₁ m₂) where
       let b = go r₁ (named m₁ lots lot n) refl u.answer u.saved (rw e at w.saved) in
       rw (e, b)
     where
-      go : (r : Saved) (x : Named) → named m₁ lots lot n ≡ x → r ≡ save_from x (length buffer) → SavedIn m₁ lot buffer buffer₁ r → SavedIn m₂ lot buffer buffer₂ r → buffer₂ ≡ buffer₁
-      go (Length l) (refused s) q e u w = no_way cc
-      go (Length l) (found a) q e u w = let h = (holder m₁ lots lot n q).held in w a (g.same ∙ h) ∙ sym (u a h)
-      go (NotSaved s) x q e u w = w ∙ sym u
+      go : (r : Result ℕ Refusal) (x : Named) → named m₁ lots lot n ≡ x → r ≡ save_from x (length buffer) → SavedIn m₁ lot buffer buffer₁ r → SavedIn m₂ lot buffer buffer₂ r → buffer₂ ≡ buffer₁
+      go (Ok l) (refused s) q e u w = no_way cc
+      go (Ok l) (found a) q e u w = let h = (holder m₁ lots lot n q).held in w a (g.same ∙ h) ∙ sym (u a h)
+      go (Err s) x q e u w = w ∙ sym u
 
-  drops_same : {m₁' m₂' : List ℕ} {lots n : ℕ} {r₁ r₂ : Outcome}
+  drops_same : {m₁' m₂' : List ℕ} {lots n : ℕ} {r₁ r₂ : Result (Unit {0}) Refusal}
       → Dropped m₁ m₁' lots lot n r₁ → Dropped m₂ m₂' lots lot n r₂ → (r₂ ≡ r₁) × Agree lot m₁' m₂'
   unfolding drop_answer
   drops_same {m₁'} {m₂'} {lots} {n} {r₁} {r₂} u w =
       let e : r₂ ≡ r₁ = w.answer ∙ rw (fits_same lots, g.same) (sym u.answer) in
       (e, go r₁ u.freed (rw e at w.freed))
     where
-      go : (r : Outcome) → Freed m₁ m₁' lot r → Freed m₂ m₂' lot r → Agree lot m₁' m₂'
-      go Done u w = record { long = w.0.long ∙ g.long ∙ sym u.0.long; same = w.1 ∙ sym u.1 }
-      go (Refused s) u w = rw (w, u) g
+      go : (r : Result (Unit {0}) Refusal) → Freed m₁ m₁' lot r → Freed m₂ m₂' lot r → Agree lot m₁' m₂'
+      go (Ok _) u w = record { long = w.0.long ∙ g.long ∙ sym u.0.long; same = w.1 ∙ sym u.1 }
+      go (Err s) u w = rw (w, u) g
 
 module _ (number lot : ℕ) where
   own_lot : (i n : ℕ) → names number lot i n ≡ true → i ≡ lot
@@ -189,15 +184,15 @@ module _ (number lot : ℕ) where
   StillOpen m = (a : Account) × Holding number lot m a
 
   module _ {m m' : List ℕ} {a : Account} (h : Holding number lot m a) where
-    deliver_keeps : (entry : List ℕ) (r : Outcome) → TakenBy m m' lot entry r → StillOpen m'
+    deliver_keeps : (entry : List ℕ) (r : Result (Unit {0}) Refusal) → TakenBy m m' lot entry r → StillOpen m'
     unfolding taken
-    deliver_keeps entry Done t = (taken (entry_of entry) a, record { held = t.1 a h.held; numbered = h.numbered })
-    deliver_keeps entry (Refused s) t = (a, rw t h)
+    deliver_keeps entry (Ok _) t = (taken (entry_of entry) a, record { held = t.1 a h.held; numbered = h.numbered })
+    deliver_keeps entry (Err s) t = (a, rw t h)
 
-    close_keeps : (list list' : List ℕ) (r : Closed) → ClosedAs m m' lot list list' r → StillOpen m'
+    close_keeps : (list list' : List ℕ) (r : Result ℕ Refusal) → ClosedAs m m' lot list list' r → StillOpen m'
     unfolding close
-    close_keeps list list' (Pieces count) t = (close a, record { held = (t.1 a h.held).0; numbered = h.numbered })
-    close_keeps list list' (NotClosed s) t = (a, rw t.0 h)
+    close_keeps list list' (Ok count) t = (close a, record { held = (t.1 a h.held).0; numbered = h.numbered })
+    close_keeps list list' (Err s) t = (a, rw t.0 h)
 
   -- an own call leaves the account open there, under its number
   pub own_call_keeps : {m m' : List ℕ} {c : Call} {r : Reply} {a : Account} → Holding number lot m a → is_own number lot c ≡ true → Step m c r m' → StillOpen m'

@@ -1,10 +1,10 @@
 -- The first half of demand 3 over runs of calls: an account that was opened alike in two runs, and has had the same entries accepted in each stream and as many epochs closed, is the same account, in whichever order the calls came and in whichever lots; the saved images and the lists are equal. Assumes nothing.
+use Rattle.std.specs.Prelude.{Ok}
 use Prim.Native.Nat.{ℕ}
 use mathlib.Core.Path.{◌≡◌, sym, ap, ◌∙◌}
 use mathlib.Core.List.{List}
 use Rattle.model.specs.Account.{Account}
 use Rattle.model.specs.Runs.{run}
-use Rattle.model.specs.declared.Saved.TheVariants.{Length}
 use Rattle.model.proofs.Runs as model
 use Rattle.lot.specs.View.{holds}
 use Rattle.lots.specs.Memory.{view_of}
@@ -27,7 +27,7 @@ module _ {number lot₁ lot₂ : ℕ} {ts₁ ts₂ : List Turn} {m₁ m₂ : Lis
   same_lists_on = one.listed ∙ model.same_lists _ _ a one.allowed other.allowed same.entries same.epochs ∙ sym other.listed
 
   pub same_images_on : {lots₁ lots₂ n₁ n₂ : ℕ} {buffer₁ buffer₂ buffer₁' buffer₂' m₁' m₂' : List ℕ}
-      → Step m₁ (save_account lots₁ lot₁ number buffer₁) (saved (Length n₁) buffer₁') m₁' → Step m₂ (save_account lots₂ lot₂ number buffer₂) (saved (Length n₂) buffer₂') m₂' → SameImage n₁ n₂ buffer₁' buffer₂'
+      → Step m₁ (save_account lots₁ lot₁ number buffer₁) (saved (Ok n₁) buffer₁') m₁' → Step m₂ (save_account lots₂ lot₂ number buffer₂) (saved (Ok n₂) buffer₂') m₂' → SameImage n₁ n₂ buffer₁' buffer₂'
   same_images_on {lots₁} {lots₂} s t = same_image (save_shows lots₁ lot₁ number s (one.held ∙ ap holds same_runs)) (save_shows lots₂ lot₂ number t other.held)
 
 -- ---- two runs that open the account alike
@@ -41,5 +41,5 @@ module _ {number f k lot₁ lot₂ : ℕ} {ts₁ ts₂ : List Turn} {m₁ m₂ :
 
   -- saves at the ends of the two runs, each with its lot count and its buffer
   pub equal_images : {lots₁ lots₂ n₁ n₂ : ℕ} {buffer₁ buffer₂ buffer₁' buffer₂' m₁' m₂' : List ℕ}
-      → Step m₁ (save_account lots₁ lot₁ number buffer₁) (saved (Length n₁) buffer₁') m₁' → Step m₂ (save_account lots₂ lot₂ number buffer₂) (saved (Length n₂) buffer₂') m₂' → SameImage n₁ n₂ buffer₁' buffer₂'
+      → Step m₁ (save_account lots₁ lot₁ number buffer₁) (saved (Ok n₁) buffer₁') m₁' → Step m₂ (save_account lots₂ lot₂ number buffer₂) (saved (Ok n₂) buffer₂') m₂' → SameImage n₁ n₂ buffer₁' buffer₂'
   equal_images s t = same_images_on (opened_followed one) (opened_followed other) same s t

@@ -1,4 +1,5 @@
 -- Whatever the model allows can be had by calls: from any memory in which an account can be opened there is a run that opens it, has these entries accepted and closes these epochs, in this order. So the premises of demand 3 can be met. Assumes nothing.
+use Rattle.std.specs.Prelude.{Ok}
 use Prim.Native.Nat.{ℕ, ◌+◌, ◌*◌, ◌/◌, ◌%◌, ◌<◌, ◌≤◌}
 use mathlib.Core.Path.{◌≡◌, refl, ap, ◌∙◌}
 use mathlib.Core.Bool.{true}
@@ -17,10 +18,6 @@ use Rattle.model.specs.Image.{image, LONGEST_IMAGE}
 use Rattle.model.specs.Runs as model
 use Rattle.model.specs.Runs.{run, Allowed}
 use Rattle.model.specs.declared.Entry.{Entry}
-use Rattle.model.specs.declared.Outcome.TheVariants.{Done}
-use Rattle.model.specs.declared.Opened.TheVariants.{InLot}
-use Rattle.model.specs.declared.Closed.TheVariants.{Pieces}
-use Rattle.model.specs.declared.Saved.TheVariants.{Length}
 use Rattle.model.proofs.Tests.{and}
 use Rattle.model.proofs.Keeping.{fresh_well_formed, taken_well_formed, closed_well_formed}
 use Rattle.lot.specs.View.{holds}
@@ -89,18 +86,18 @@ module _ {number lots lot : ℕ} {m : List ℕ} {a : Account} (r : Ready number 
   ready_after : {b : Account} {m' : List ℕ} → Becomes lot m m' (holds b) → b.number ≡ a.number → Ready number lots lot m' b
   ready_after {b} {m'} w e = record { there = still_there lots lot m m' w.0.long r.there; here = record { held = w.1; numbered = e ∙ r.here.numbered } }
 
-  does_deliver : (e : Entry) {m' : List ℕ} → judge_entry a e ≡ Done → Becomes lot m m' (holds (taking.taken e a)) → Delivered m m' lots lot number (entry16 e) Done
+  does_deliver : (e : Entry) {m' : List ℕ} → judge_entry a e ≡ Ok tt → Becomes lot m m' (holds (taking.taken e a)) → Delivered m m' lots lot number (entry16 e) (Ok tt)
   unfolding deliver_answer judge
   does_deliver e j w = record { answer = rw (is_found, entry_long e, entry_back e, j); taken = (w.0, λ c v. w.1 ∙ rw (← same_account c v, entry_back e)) }
 
-  can_deliver : (e : Entry) → judge_entry a e ≡ Done → (m' : List ℕ) × Step m (deliver lots lot number (entry16 e)) (outcome Done) m' × Ready number lots lot m' (taking.taken e a)
+  can_deliver : (e : Entry) → judge_entry a e ≡ Ok tt → (m' : List ℕ) × Step m (deliver lots lot number (entry16 e)) (outcome (Ok tt)) m' × Ready number lots lot m' (taking.taken e a)
   unfolding taking.taken
   can_deliver e j =
       let b = changed (taking.taken e a) (taken_well_formed e is_well_formed j) in
       (b.0, delivers (does_deliver e j b.1), ready_after b.1 refl)
 
   -- whatever step a close that is done is, the account stands there with the epoch closed
-  pub ready_closed : {list list' m' : List ℕ} {count : ℕ} → Step m (close_epoch lots lot number list) (closed (Pieces count) list') m' → Ready number lots lot m' (close a)
+  pub ready_closed : {list list' m' : List ℕ} {count : ℕ} → Step m (close_epoch lots lot number list) (closed (Ok count) list') m' → Ready number lots lot m' (close a)
   unfolding close
   ready_closed (closes w) = ready_after (w.closed.0, (w.closed.1 a r.here.held).0) refl
 
@@ -111,38 +108,38 @@ module _ {number lots lot : ℕ} {m : List ℕ} {a : Account} (r : Ready number 
   abbrev after : List ℕ
   after = pairs (listed a) ++ drop (2 * length (listed a)) before
 
-  does_close : {m' : List ℕ} → judge_close a ≡ Done → Becomes lot m m' (holds (close a)) → EpochClosed m m' lots lot number before after (Pieces (length (listed a)))
+  does_close : {m' : List ℕ} → judge_close a ≡ Ok tt → Becomes lot m m' (holds (close a)) → EpochClosed m m' lots lot number before after (Ok (length (listed a)))
   unfolding close_answer judge_room
   does_close j w = record { answer = rw (is_found, j); closed = (w.0, λ c v. (w.1 ∙ rw (← same_account c v), rw (← same_account c v))) }
 
-  can_close : judge_close a ≡ Done → (m' : List ℕ) × Step m (close_epoch lots lot number before) (closed (Pieces (length (listed a))) after) m' × Ready number lots lot m' (close a)
+  can_close : judge_close a ≡ Ok tt → (m' : List ℕ) × Step m (close_epoch lots lot number before) (closed (Ok (length (listed a))) after) m' × Ready number lots lot m' (close a)
   unfolding close
   can_close j =
       let b = changed (close a) (closed_well_formed is_well_formed j) in
       (b.0, closes (does_close j b.1), ready_after b.1 refl)
 
   -- save is lent room for the longest image
-  pub can_save : (buffer : List ℕ) → LONGEST_IMAGE ≤ length buffer → Step m (save_account lots lot number buffer) (saved (Length (length (image a))) (image a ++ drop (length (image a)) buffer)) m
+  pub can_save : (buffer : List ℕ) → LONGEST_IMAGE ≤ length buffer → Step m (save_account lots lot number buffer) (saved (Ok (length (image a))) (image a ++ drop (length (image a)) buffer)) m
   unfolding save_answer
   can_save buffer room = saves (record { answer = answer; saved = λ c v. ap (λ b. image b ++ drop (length (image a)) buffer) (same_account c v) })
     where
-      answer : Length (length (image a)) ≡ save_answer m lots lot number buffer
+      answer : Ok (length (image a)) ≡ save_answer m lots lot number buffer
       answer = rw (is_found, le-ltb (length buffer) LONGEST_IMAGE room)
 
 -- ---- whatever step it is, what close, read and save are answered there
 
 module _ {number lots lot : ℕ} {m : List ℕ} {a : Account} (here : Ready number lots lot m a) where
-  pub closes_as : {m' : List ℕ} {r : Reply} (list : List ℕ) → LEAST_LIST ≤ length list → judge_close a ≡ Done → Step m (close_epoch lots lot number list) r m' → (list' : List ℕ) × Step m (close_epoch lots lot number list) (closed (Pieces (length (listed a))) list') m'
+  pub closes_as : {m' : List ℕ} {r : Reply} (list : List ℕ) → LEAST_LIST ≤ length list → judge_close a ≡ Ok tt → Step m (close_epoch lots lot number list) r m' → (list' : List ℕ) × Step m (close_epoch lots lot number list) (closed (Ok (length (listed a))) list') m'
   unfolding close_answer judge_room
   closes_as list room j (closes {list' = list'} {r = o} w) =
-      let e : o ≡ Pieces (length (listed a)) = w.answer ∙ rw (is_found here, le-ltb (length list) LEAST_LIST room, j) in
+      let e : o ≡ Ok (length (listed a)) = w.answer ∙ rw (is_found here, le-ltb (length list) LEAST_LIST room, j) in
       (list', closes (rw e at w))
 
-  pub reads_as : {m' : List ℕ} {r : Reply} (i k : ℕ) → i < a.fragments → k < a.keys → Step m (read_record lots lot number i k) r m' → r ≡ runs.found (found_of ((a.at i).records k))
+  pub reads_as : {m' : List ℕ} {r : Reply} (i k : ℕ) → i < a.fragments → k < a.keys → Step m (read_record lots lot number i k) r m' → r ≡ runs.found (Ok (found_of ((a.at i).records k)))
   unfolding read_answer
   reads_as i k f l (reads w) = ap runs.found (w ∙ rw (is_found here, lt-ltb i a.fragments f, lt-ltb k a.keys l))
 
-  pub saves_as : {m' : List ℕ} {r : Reply} (buffer : List ℕ) → LONGEST_IMAGE ≤ length buffer → Step m (save_account lots lot number buffer) r m' → (buffer' : List ℕ) × (r ≡ saved (Length (length (image a))) buffer')
+  pub saves_as : {m' : List ℕ} {r : Reply} (buffer : List ℕ) → LONGEST_IMAGE ≤ length buffer → Step m (save_account lots lot number buffer) r m' → (buffer' : List ℕ) × (r ≡ saved (Ok (length (image a))) buffer')
   unfolding save_answer
   saves_as buffer room (saves {buffer' = buffer'} w) = (buffer', ap (λ o. saved o buffer') (w.answer ∙ rw (is_found here, le-ltb (length buffer) LONGEST_IMAGE room)))
 
@@ -168,7 +165,7 @@ module _ (number lots lot : ℕ) where
       let s = can_deliver r e l.0 in
       let w = reach ss s.2 l.1 in
       record {
-        turns = record { call = deliver lots lot number (entry16 e); reply = outcome Done } ∷ w.turns;
+        turns = record { call = deliver lots lot number (entry16 e); reply = outcome (Ok tt) } ∷ w.turns;
         after = w.after;
         runs = goes s.1 w.runs;
         kept = (refl, w.kept);
@@ -179,7 +176,7 @@ module _ (number lots lot : ℕ) where
       let s = can_close r l.0 in
       let w = reach ss s.2 l.1 in
       record {
-        turns = record { call = close_epoch lots lot number (before r); reply = closed (Pieces (length (listed a))) (after r) } ∷ w.turns;
+        turns = record { call = close_epoch lots lot number (before r); reply = closed (Ok (length (listed a))) (after r) } ∷ w.turns;
         after = w.after;
         runs = goes s.1 w.runs;
         kept = (refl, w.kept);
@@ -196,7 +193,7 @@ pub record ReachedRun (number f k lots lot : ℕ) (ss : List model.Step) : Type 
   pub ready : Ready number lots lot after (run ss (fresh number f k))
 
 -- from any memory in which the opening is answered this lot
-pub every_run : (m : List ℕ) (number f k lots lot : ℕ) (ss : List model.Step) → InLot lot ≡ open_answer m lots number f k → Allowed ss (fresh number f k) → ReachedRun number f k lots lot ss
+pub every_run : (m : List ℕ) (number f k lots lot : ℕ) (ss : List model.Step) → Ok lot ≡ open_answer m lots number f k → Allowed ss (fresh number f k) → ReachedRun number f k lots lot ss
 unfolding fresh lot_fits
 every_run m number f k lots lot ss e l =
     let p = opened_placed m lots number f k e in
@@ -225,10 +222,10 @@ opened_ready {number} {f} {k} {lot} {ts} {m'} o = record {
   here = record { held = (opened_followed o).held; numbered = run_number (steps_in number lot ts) (fresh number f k) };
 }
   where
-    first : {m₂ : List ℕ} → Run o.m (record { call = open_account o.lots number f k; reply = opened (InLot lot) } ∷ ts) m₂ → lot_fits o.lots lot o.m ≡ true
+    first : {m₂ : List ℕ} → Run o.m (record { call = open_account o.lots number f k; reply = opened (Ok lot) } ∷ ts) m₂ → lot_fits o.lots lot o.m ≡ true
     first (goes (opens w) us) = let p = opened_placed o.m o.lots number f k w.answer in and p.0.fits (lt-ltb lot o.lots p.0.there)
 
 -- so a save with room for the longest image is answered its length
 pub save_answered : {number f k lot : ℕ} {ts : List Turn} {m' m'' : List ℕ} {r : Reply} (o : OpenedRun number f k lot ts m') (buffer : List ℕ) → LONGEST_IMAGE ≤ length buffer → Step m' (save_account o.lots lot number buffer) r m''
-    → (buffer' : List ℕ) × (r ≡ saved (Length (length (image (run (steps_in number lot ts) (fresh number f k))))) buffer')
+    → (buffer' : List ℕ) × (r ≡ saved (Ok (length (image (run (steps_in number lot ts) (fresh number f k))))) buffer')
 save_answered o buffer room s = saves_as (opened_ready o) buffer room s

@@ -7,7 +7,7 @@ use mathlib.Core.List.{List, [], ◌∷◌}
 use native.Mathlib.Omega.{arith}
 use lib.Dec.{leb}
 use borrow.Author.Tests.{leb-true, eqb-true, le-leb, eq-eqb}
-use Rattle.std.specs.Prelude.{if◌then◌else◌}
+use Rattle.std.specs.Prelude.{if◌then◌else◌, Ok}
 use Rattle.model.specs.Entry.{PUT, DELETE, P, CC, CP}
 use Rattle.model.specs.Account.{Held, key, Record, absent, fresh}
 use Rattle.model.specs.Closing.{writes_to, written, after_writes}
@@ -99,7 +99,7 @@ module _ {number f k lot : ℕ} {ts : List Turn} {m' : List ℕ} {wrote : ℕ �
   earlier_commit = rw W.listed (model.earlier_commit F)
 
   -- a read at the end of the run is answered the record x
-  module _ {lots i key : ℕ} {m'' : List ℕ} (x : Record) (answered : Step m' (read_record lots lot number i key) (found (found_of x)) m'') where
+  module _ {lots i key : ℕ} {m'' : List ℕ} (x : Record) (answered : Step m' (read_record lots lot number i key) (found (Ok (found_of x))) m'') where
     abbrev shown : RecordOf (run (steps_in number lot ts) (fresh number f k)) i key x
     shown = read_answered lots lot number i key x answered W.held
 

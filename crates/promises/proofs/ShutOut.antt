@@ -1,4 +1,5 @@
 -- Wrong standbys that demands 2 and 3 shut out: one whose close does nothing, one that truly installs epoch 1 and only counts later, one that saves an empty image always. Assumes nothing.
+use Rattle.std.specs.Prelude.{Ok}
 use Prim.Native.Nat.{ℕ, ◌≤◌}
 use mathlib.Core.Path.{◌≡◌, refl, sym, ap, ◌∙◌}
 use mathlib.Core.Logic.{◌≢◌}
@@ -12,9 +13,6 @@ use Rattle.model.specs.Taking.{stepped, hold, take, taken}
 use Rattle.model.specs.Closing.{judge_close, upto, verdict, committed, pieces, left, survivors, after_writes, apply, settle, close, listed}
 use Rattle.model.specs.Image.{image}
 use Rattle.model.specs.Runs.{Step, taking, closing, run, Allowed}
-use Rattle.model.specs.declared.Outcome.TheVariants.{Done}
-use Rattle.model.specs.declared.Closed.TheVariants.{Pieces}
-use Rattle.model.specs.declared.Saved.TheVariants.{Length}
 use Rattle.model.proofs.Image.{image_length_law}
 use Rattle.model.proofs.Cases.{put, prepare, commit, mark, start, worked_allowed}
 use Rattle.lot.specs.Writing.{found_of}
@@ -32,7 +30,7 @@ use Rattle.promises.proofs.Worked.{memory, opens_there}
 
 -- whichever account it is, a close that is done leaves another one
 pub close_does_something : {m m' : List ℕ} {number lot lots count : ℕ} {list list' : List ℕ} {a : Account} → Holding number lot m a
-    → calls.Step m (close_epoch lots lot number list) (calls.closed (Pieces count) list') m' → view_of m' lot ≢ view_of m lot
+    → calls.Step m (close_epoch lots lot number list) (calls.closed (Ok count) list') m' → view_of m' lot ≢ view_of m lot
 unfolding close
 close_does_something {a = a} h s e =
     let c = close_is_the_models h s in
@@ -53,7 +51,7 @@ second = run until_second start
 allowed : Allowed until_second start × Allowed (closing ∷ []) second
 allowed = allowed_split until_second (closing ∷ []) start worked_allowed
 
-can_close : judge_close second ≡ Done
+can_close : judge_close second ≡ Ok tt
 unfolding Allowed
 can_close = allowed.1.0
 
@@ -84,7 +82,7 @@ buffer = replicate 13400 0
 -- ---- no standby that keeps the contracts ..
 
 module _ (s : Standby) (serves : Serves s) where
-  abbrev closed : (list' : List ℕ) × calls.Step before (close_epoch 1 0 7 list) (calls.closed (Pieces (length (listed second))) list') (s.leaves before (close_epoch 1 0 7 list))
+  abbrev closed : (list' : List ℕ) × calls.Step before (close_epoch 1 0 7 list) (calls.closed (Ok (length (listed second))) list') (s.leaves before (close_epoch 1 0 7 list))
   closed = closes_as there.ready list (omega (arith, length-replicate {A = ℕ} 512 0)) can_close (serves before (close_epoch 1 0 7 list))
 
   -- .. has a close that does nothing,
@@ -99,13 +97,13 @@ module _ (s : Standby) (serves : Serves s) where
       let limits = two_by_four in
       let x = reads_as there.ready 1 3 (omega (arith, limits.0)) (omega (arith, limits.1)) (serves before (read_record 1 0 7 1 3)) in
       let y = reads_as (ready_closed there.ready closed.1) 1 3 (omega (arith, limits.3)) (omega (arith, limits.4)) (serves after (read_record 1 0 7 1 3)) in
-      let e : calls.found (found_of (((close second).at 1).records 3)) ≡ calls.found (found_of ((second.at 1).records 3)) = sym y ∙ same before 1 0 7 list second there.ready.here (omega (arith, limits.2)) 1 3 ∙ x in
-      let f : calls.found (found_of (present 40)) ≡ calls.found (found_of absent) = rw (is_written, was_absent) at e in
+      let e : calls.found (Ok (found_of (((close second).at 1).records 3))) ≡ calls.found (Ok (found_of ((second.at 1).records 3))) = sym y ∙ same before 1 0 7 list second there.ready.here (omega (arith, limits.2)) 1 3 ∙ x in
+      let f : calls.found (Ok (found_of (present 40))) ≡ calls.found (Ok (found_of absent)) = rw (is_written, was_absent) at e in
       let z : ◌≡◌ {A = ℕ} 0 1 = cc in
       omega arith
 
   -- .. or saves an empty image always
-  pub empty_image : ((m : List ℕ) (lots lot number : ℕ) (b b' : List ℕ) (n : ℕ) → s.answers m (save_account lots lot number b) ≡ calls.saved (Length n) b' → n ≡ 0) → ⊥
+  pub empty_image : ((m : List ℕ) (lots lot number : ℕ) (b b' : List ℕ) (n : ℕ) → s.answers m (save_account lots lot number b) ≡ calls.saved (Ok n) b' → n ≡ 0) → ⊥
   empty_image none =
       let w = saves_as there.ready buffer (omega (arith, length-replicate {A = ℕ} 13400 0)) (serves before (save_account 1 0 7 buffer)) in
       omega (arith, none before 1 0 7 buffer w.0 (length (image second)) w.1, image_length_law second)

@@ -1,4 +1,5 @@
 -- The worked case of docs/RULES.md as a run of calls, and the same entries and closes in another order as a second run: so the premises of demand 3 are met, both halves. Assumes nothing.
+use Rattle.std.specs.Prelude.{Ok}
 use Prim.Native.Nat.{ℕ, zero, suc, ◌≤◌}
 use mathlib.Core.Path.{◌≡◌, refl, sym, ◌∙◌}
 use mathlib.Core.List.{List, [], ◌∷◌, ◌++◌}
@@ -14,7 +15,6 @@ use Rattle.model.specs.Closing.{missing, judge_close, upto, verdict, committed, 
 use Rattle.model.specs.Decoding.{same}
 use Rattle.model.specs.Image.{image, LONGEST_IMAGE}
 use Rattle.model.specs.Runs.{Step, taking, closing, run, Allowed, log, closings}
-use Rattle.model.specs.declared.Opened.TheVariants.{InLot}
 use Rattle.model.proofs.Runs.{log_outside}
 use Rattle.model.proofs.Cases.{put, prepare, commit, mark, start, piece, worked, worked_is, worked_allowed}
 use Rattle.model.proofs.WorkedLog.{worked_log, worked_follows}
@@ -37,7 +37,7 @@ lot_is_free : view_of memory 0 ≡ free
 unfolding view_of view_lot view same
 lot_is_free = refl
 
-pub opens_there : InLot 0 ≡ open_answer memory 1 7 2 4
+pub opens_there : Ok 0 ≡ open_answer memory 1 7 2 4
 unfolding open_answer place_for memory_fits every account_fits some_below lowest_below
 opens_there = rw lot_is_free
 

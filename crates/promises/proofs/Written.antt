@@ -5,15 +5,11 @@ use mathlib.Core.Bool.{Bool, true, false}
 use mathlib.Core.List.{List}
 use lib.Dec.{eqb}
 use lib.ListN.{length}
-use Rattle.std.specs.Prelude.{if◌then◌else◌}
+use Rattle.std.specs.Prelude.{if◌then◌else◌, Ok, Err}
 use Rattle.model.specs.Lists.{upward}
 use Rattle.model.specs.Answers.{refusal_numbers}
 use Rattle.model.specs.declared.Refusal.{Refusal}
 use Rattle.model.specs.declared.Refusal.TheVariants.{NoSuchLot, Damaged, NotThisAccount, WrongLength, Unfit, OutsideAccount, Seen, Gap, WrongMark, OutOfTurn, Full, MarkMissing, AlreadyOpen, NoFreeLot, UnfitAccount, TooShort, NotAccepted}
-use Rattle.model.specs.declared.Outcome.TheVariants.{Done, Refused}
-use Rattle.model.specs.declared.Opened.TheVariants.{InLot, NotOpened}
-use Rattle.model.specs.declared.Closed.TheVariants.{Pieces, NotClosed}
-use Rattle.model.specs.declared.Saved.TheVariants.{Length, NotSaved}
 use Rattle.model.proofs.Tests.{no_way}
 use Rattle.overview.specs.Overview.{rows_with}
 use Rattle.overview.specs.declared.Row.{Row}
@@ -49,20 +45,20 @@ either_way true m = refl
 either_way false m = refl
 
 pub writes_only : {m m' : List ℕ} {c : Call} {r : Reply} → Step m c r m' → Elsewhere (writes c r) m m'
-writes_only (starts {r = Done} w) = w.freed.long
-writes_only (starts {lots = lots} {r = Refused s} w) = idle s _ w.freed
-writes_only (opens {r = InLot i} w) = w.opened.0
-writes_only (opens {r = NotOpened s} w) = idle s _ w.opened
-writes_only (delivers {r = Done} w) = w.taken.0
-writes_only (delivers {r = Refused s} w) = idle s _ w.taken
-writes_only (closes {r = Pieces n} w) = w.closed.0
-writes_only (closes {r = NotClosed s} w) = idle s _ w.closed.0
+writes_only (starts {r = (Ok tt)} w) = w.freed.long
+writes_only (starts {lots = lots} {r = Err s} w) = idle s _ w.freed
+writes_only (opens {r = Ok i} w) = w.opened.0
+writes_only (opens {r = Err s} w) = idle s _ w.opened
+writes_only (delivers {r = (Ok tt)} w) = w.taken.0
+writes_only (delivers {r = Err s} w) = idle s _ w.taken
+writes_only (closes {r = Ok n} w) = w.closed.0
+writes_only (closes {r = Err s} w) = idle s _ w.closed.0
 writes_only {m} (reads {r = r} w) = either_way (is_done (found r)) m
 writes_only {m} (saves {buffer' = b} {r = r} w) = either_way (is_done (saved r b)) m
-writes_only (loads {lots = lots} {given = given} {r = InLot i} w) = let p = loaded_placed _ lots given w.answer in (w.loaded p.account p.shown).0
-writes_only (loads {r = NotOpened s} w) = idle s _ w.loaded
-writes_only (drops {r = Done} w) = w.freed.0
-writes_only (drops {r = Refused s} w) = idle s _ w.freed
+writes_only (loads {lots = lots} {given = given} {r = Ok i} w) = let p = loaded_placed _ lots given w.answer in (w.loaded p.account p.shown).0
+writes_only (loads {r = Err s} w) = idle s _ w.loaded
+writes_only (drops {r = (Ok tt)} w) = w.freed.0
+writes_only (drops {r = Err s} w) = idle s _ w.freed
 writes_only {m} (overviews {rows' = rows} {r = r} w) = either_way (is_done (overviewed r rows)) m
 
 -- ---- the memory's length stays
@@ -82,20 +78,20 @@ unfolding upward
 no_rows m rows = refl
 
 pub refusal_changes_nothing : {m m' : List ℕ} {c : Call} {r : Reply} → Step m c r m' → is_done r ≡ false → (m' ≡ m) × (left_in r ≡ lent_to c)
-refusal_changes_nothing (starts {r = Done} w) e = no_way (sym e)
-refusal_changes_nothing (starts {r = Refused s} w) e = (w.freed, refl)
-refusal_changes_nothing (opens {r = InLot i} w) e = no_way (sym e)
-refusal_changes_nothing (opens {r = NotOpened s} w) e = (w.opened, refl)
-refusal_changes_nothing (delivers {r = Done} w) e = no_way (sym e)
-refusal_changes_nothing (delivers {r = Refused s} w) e = (w.taken, refl)
-refusal_changes_nothing (closes {r = Pieces n} w) e = no_way (sym e)
-refusal_changes_nothing (closes {r = NotClosed s} w) e = (w.closed.0, rw w.closed.1)
+refusal_changes_nothing (starts {r = (Ok tt)} w) e = no_way (sym e)
+refusal_changes_nothing (starts {r = Err s} w) e = (w.freed, refl)
+refusal_changes_nothing (opens {r = Ok i} w) e = no_way (sym e)
+refusal_changes_nothing (opens {r = Err s} w) e = (w.opened, refl)
+refusal_changes_nothing (delivers {r = (Ok tt)} w) e = no_way (sym e)
+refusal_changes_nothing (delivers {r = Err s} w) e = (w.taken, refl)
+refusal_changes_nothing (closes {r = Ok n} w) e = no_way (sym e)
+refusal_changes_nothing (closes {r = Err s} w) e = (w.closed.0, rw w.closed.1)
 refusal_changes_nothing (reads {r = r} w) e = (refl, refl)
-refusal_changes_nothing (saves {r = Length n} w) e = no_way (sym e)
-refusal_changes_nothing (saves {r = NotSaved s} w) e = (refl, rw w.saved)
-refusal_changes_nothing (loads {r = InLot i} w) e = no_way (sym e)
-refusal_changes_nothing (loads {r = NotOpened s} w) e = (w.loaded, refl)
-refusal_changes_nothing (drops {r = Done} w) e = no_way (sym e)
-refusal_changes_nothing (drops {r = Refused s} w) e = (w.freed, refl)
-refusal_changes_nothing (overviews {r = Done} w) e = no_way (sym e)
-refusal_changes_nothing {m} (overviews {rows = rows} {r = Refused s} w) e = (refl, rw (w.filled, no_rows m rows))
+refusal_changes_nothing (saves {r = Ok n} w) e = no_way (sym e)
+refusal_changes_nothing (saves {r = Err s} w) e = (refl, rw w.saved)
+refusal_changes_nothing (loads {r = Ok i} w) e = no_way (sym e)
+refusal_changes_nothing (loads {r = Err s} w) e = (w.loaded, refl)
+refusal_changes_nothing (drops {r = (Ok tt)} w) e = no_way (sym e)
+refusal_changes_nothing (drops {r = Err s} w) e = (w.freed, refl)
+refusal_changes_nothing (overviews {r = (Ok tt)} w) e = no_way (sym e)
+refusal_changes_nothing {m} (overviews {rows = rows} {r = Err s} w) e = (refl, rw (w.filled, no_rows m rows))

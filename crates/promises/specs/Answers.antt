@@ -1,6 +1,5 @@
 -- Which numbers a call may be answered, when each refusal is given, and the answer.
-use Rattle.std.specs.Prelude.{ℕ, ◌/◌, ◌%◌, ◌≤◌, ◌≡◌, Bool, true, false, not, ◌&&◌, List, [], ◌∷◌, ltb, eqb, length, ℤ, if◌then◌else◌}
-use Rattle.std.proofs.Math.Option.{Option, some, none}
+use Rattle.std.specs.Prelude.{ℕ, ◌/◌, ◌%◌, ◌≤◌, ◌≡◌, Bool, true, false, not, ◌&&◌, List, [], ◌∷◌, ltb, eqb, length, ℤ, if◌then◌else◌, Option, Some, None}
 use Rattle.model.specs.Lists.{any, count_below}
 use Rattle.model.specs.Entry.{LENGTH, entry_of, fits, inside}
 use Rattle.model.specs.Distance.{distance, below_zero, above_zero}
@@ -82,12 +81,12 @@ of_held damaged p = false
 of_held (holds a) p = p a
 
 abbrev pub is_none : Option Account → Bool
-is_none none = true
-is_none (some a) = false
+is_none None = true
+is_none (Some a) = false
 
 abbrev pub of_shown : Option Account → (Account → Bool) → Bool
-of_shown none p = false
-of_shown (some a) p = p a
+of_shown None p = false
+of_shown (Some a) p = p a
 
 -- 3: the lot is free or another account's
 abbrev pub free_or_other : ℕ → Lot → Bool

@@ -1,10 +1,9 @@
 -- One account over a run: what its own turns made of it.
-use Rattle.std.specs.Prelude.{ℕ, ◌≡◌, List, ◌∷◌}
+use Rattle.std.specs.Prelude.{ℕ, ◌≡◌, List, ◌∷◌, Ok}
 use Rattle.model.specs.Account.{Account}
 use Rattle.model.specs.Closing.{Piece}
 use Rattle.model.specs.Runs.{Step, run, lists, Allowed, log, closings}
 use Rattle.model.specs.declared.Entry.{Entry}
-use Rattle.model.specs.declared.Opened.TheVariants.{InLot}
 use Rattle.lot.specs.View.{holds}
 use Rattle.lots.specs.Memory.{view_of}
 use Rattle.promises.specs.Runs.{open_account, opened, Turn, Run}
@@ -42,7 +41,7 @@ pub record Followed (number lot : ℕ) (ts : List Turn) (a : Account) (m' : List
 pub record OpenedRun (number f k lot : ℕ) (rest : List Turn) (m' : List ℕ) : Type 0 where
   pub m : List ℕ
   pub lots : ℕ
-  pub runs : Run m (record { call = open_account lots number f k; reply = opened (InLot lot) } ∷ rest) m'
+  pub runs : Run m (record { call = open_account lots number f k; reply = opened (Ok lot) } ∷ rest) m'
   pub kept : Kept number lot rest
 
 -- two runs of the account, each in its lot: each stream has had the same entries accepted, and as many epochs are closed

@@ -1,6 +1,5 @@
 -- What saves wrote and reads are answered, in terms of an account; and what is supposed between a load and a save.
-use Rattle.std.specs.Prelude.{ℕ, ◌<◌, ◌≡◌, List, [], length, take}
-use Rattle.std.proofs.Math.Option.{some}
+use Rattle.std.specs.Prelude.{ℕ, ◌<◌, ◌≡◌, List, [], length, take, Some}
 use Rattle.model.specs.Account.{Account, Record}
 use Rattle.model.specs.Image.{image}
 use Rattle.model.specs.Decoding.{load}
@@ -28,7 +27,7 @@ pub record RecordOf (a : Account) (i k : ℕ) (x : Record) : Type 0 where
 
 -- since these data were loaded into lot i: the account that they show has this number, and in the run since no start and no drop of it there was done, none of its entries was accepted and no epoch closed
 pub record KeptSinceLoad (number i : ℕ) (given m' : List ℕ) (ts : List Turn) (m₂ : List ℕ) : Type 0 where
-  pub numbered : (a : Account) → load given ≡ some a → a.number ≡ number
+  pub numbered : (a : Account) → load given ≡ Some a → a.number ≡ number
   pub runs : Run m' ts m₂
   pub kept : Kept number i ts
   pub nothing_done : steps_in number i ts ≡ []

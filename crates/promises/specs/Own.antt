@@ -1,24 +1,21 @@
 -- The calls of one account: those that name its lot and its number; and what a run's replies to them say was taken, closed and listed.
-use Rattle.std.specs.Prelude.{ℕ, zero, suc, ◌≡◌, Bool, true, false, ◌&&◌, List, [], ◌∷◌, ◌++◌, eqb, if◌then◌else◌}
+use Rattle.std.specs.Prelude.{ℕ, zero, suc, ◌≡◌, Bool, true, false, ◌&&◌, List, [], ◌∷◌, ◌++◌, eqb, if◌then◌else◌, Result, Ok, Err}
 use Rattle.model.specs.Entry.{entry_of}
 use Rattle.model.specs.Closing.{Piece}
 use Rattle.model.specs.Runs as model
-use Rattle.model.specs.declared.Outcome.{Outcome}
-use Rattle.model.specs.declared.Outcome.TheVariants.{Done, Refused}
-use Rattle.model.specs.declared.Closed.{Closed}
-use Rattle.model.specs.declared.Closed.TheVariants.{Pieces, NotClosed}
+use Rattle.model.specs.declared.Refusal.{Refusal}
 use Rattle.promises.specs.Runs.{Call, start, open_account, deliver, close_epoch, read_record, save_account, load_account, drop_account, overview, Reply, outcome, opened, closed, found, saved, overviewed, Turn}
 use Rattle.promises.specs.Written.{is_done}
 
 -- ---- what a reply says was done
 
-abbrev pub taken : List ℕ → Outcome → List model.Step
-taken entry Done = model.taking (entry_of entry) ∷ []
-taken entry (Refused r) = []
+abbrev pub taken : List ℕ → Result (Unit {0}) Refusal → List model.Step
+taken entry (Ok _) = model.taking (entry_of entry) ∷ []
+taken entry (Err r) = []
 
-abbrev pub closing : Closed → List model.Step
-closing (Pieces count) = model.closing ∷ []
-closing (NotClosed r) = []
+abbrev pub closing : Result ℕ Refusal → List model.Step
+closing (Ok count) = model.closing ∷ []
+closing (Err r) = []
 
 -- entries accepted and epochs closed
 abbrev pub done_by : Call → Reply → List model.Step
@@ -49,9 +46,9 @@ first_pieces (suc n) [] = []
 first_pieces (suc n) (i ∷ []) = []
 first_pieces (suc n) (i ∷ t ∷ l) = record { fragment = i; transaction = t } ∷ first_pieces n l
 
-abbrev pub listing : Closed → List ℕ → List (List Piece)
-listing (Pieces count) list = first_pieces count list ∷ []
-listing (NotClosed r) list = []
+abbrev pub listing : Result ℕ Refusal → List ℕ → List (List Piece)
+listing (Ok count) list = first_pieces count list ∷ []
+listing (Err r) list = []
 
 -- the list of a close
 abbrev pub listed_by : Reply → List (List Piece)

@@ -4,15 +4,9 @@
 
 ghost use Rattle.std.specs.Prelude.{◌≤◌, length, IfOk};
 
+use lines::Text;
 use std::io::{self, ErrorKind, Read, Write};
 use std::rt::{Stdin, Stdout};
-
-fn print(mut output: Stdout, text: &[u8], length: usize) -> io::Result<()> {
-    if length <= text.len() {
-        output.write_all(&text[..length])?;
-    }
-    Ok(())
-}
 
 // Reads until the buffer is full or the input ends, and answers how many bytes it read. A read that a signal interrupts is made
 // again. A proved loop has to end, so this one has an end that no run reaches.
@@ -34,91 +28,91 @@ fn read_full(mut input: Stdin, buffer: &mut [u8]) -> io::Result<usize>
     Ok(read)
 }
 
-// Closes the next epoch where it can, and answers whether it did.
-fn close_next(
-    output: Stdout,
-    memory: &mut [u8; lot::SIZE],
-    account: u32,
-    out: &mut [u8; lines::ROOM],
-) -> io::Result<bool> {
-    let length = replaying::close_next(memory, account, out);
-    print(output, out, length)?;
-    Ok(length > 0)
-}
-
-// A proved loop has to end. So this one counts its turns down, from more than there are epochs.
-fn close_while_it_can(
-    output: Stdout,
-    memory: &mut [u8; lot::SIZE],
-    account: u32,
-    out: &mut [u8; lines::ROOM],
-) -> io::Result<()> {
-    let mut turns = u64::MAX;
-    while turns > 0 && close_next(output, memory, account, out)? {
-        turns -= 1;
-    }
-    Ok(())
-}
-
-// Reads the next entry and delivers it, and answers whether there was one.
-fn next_entry(
+// A run of the program: what it reads and writes, its one lot, and the text of the call that was made last.
+#[derive(Drop)]
+struct Run {
     input: Stdin,
     output: Stdout,
-    memory: &mut [u8; lot::SIZE],
-    account: u32,
-    index: u64,
-    out: &mut [u8; lines::ROOM],
-) -> io::Result<bool> {
-    let mut entry = [0u8; 16];
-    let read = read_full(input, &mut entry)?;
-    if read == 0 {
-        return Ok(false);
-    }
-    let length = replaying::deliver_entry(memory, account, index, &entry[..read], out);
-    print(output, out, length)?;
-    if length == 0 {
-        close_while_it_can(output, memory, account, out)?;
-    }
-    Ok(true)
+    memory: [u8; lot::SIZE],
+    out: Text,
 }
 
-// Nothing says that the input ends, so this loop too has an end that no run reaches.
-fn all_entries(
-    input: Stdin,
-    output: Stdout,
-    memory: &mut [u8; lot::SIZE],
-    account: u32,
-    out: &mut [u8; lines::ROOM],
-) -> io::Result<()> {
-    let mut index: u64 = 0;
-    while index < u64::MAX && next_entry(input, output, memory, account, index, out)? {
-        index += 1;
+impl Run {
+    fn print(&mut self) -> io::Result<()> {
+        self.output.write_all(self.out.as_bytes())
     }
-    Ok(())
-}
 
-fn replay(
-    input: Stdin,
-    output: Stdout,
-    memory: &mut [u8; lot::SIZE],
-    out: &mut [u8; lines::ROOM],
-) -> io::Result<()> {
-    let mut first = [0u8; 4];
-    let read = read_full(input, &mut first)?;
-    let header = replaying::read_header(&first[..read]);
-    standby::start(memory, 1);
-    let refused = replaying::open_header(memory, header, out);
-    print(output, out, refused)?;
-    if refused > 0 {
-        return Ok(());
+    // Closes the next epoch where it can, and answers whether it did.
+    fn close_next(&mut self, account: u32) -> io::Result<bool> {
+        replaying::close_next(&mut self.memory, account, &mut self.out);
+        self.print()?;
+        Ok(!self.out.is_empty())
     }
-    all_entries(input, output, memory, header.account, out)?;
-    let length = replaying::put_account(memory, header.account, out);
-    print(output, out, length)
+
+    // A proved loop has to end. So this one ends after more turns than there are epochs.
+    fn close_while_it_can(&mut self, account: u32) -> io::Result<()> {
+        for _ in 0..u64::MAX {
+            if !self.close_next(account)? {
+                break;
+            }
+        }
+        Ok(())
+    }
+
+    // Reads the next entry and delivers it, and answers whether there was one.
+    fn next_entry(&mut self, account: u32, index: u64) -> io::Result<bool> {
+        let mut entry = [0u8; 16];
+        let read = read_full(self.input, &mut entry)?;
+        if read == 0 {
+            return Ok(false);
+        }
+        replaying::deliver_entry(
+            &mut self.memory,
+            account,
+            index,
+            &entry[..read],
+            &mut self.out,
+        );
+        self.print()?;
+        if self.out.is_empty() {
+            self.close_while_it_can(account)?;
+        }
+        Ok(true)
+    }
+
+    // Nothing says that the input ends, so this loop too has an end that no run reaches.
+    fn all_entries(&mut self, account: u32) -> io::Result<()> {
+        for index in 0..u64::MAX {
+            if !self.next_entry(account, index)? {
+                break;
+            }
+        }
+        Ok(())
+    }
+
+    fn replay(&mut self) -> io::Result<()> {
+        let mut first = [0u8; 4];
+        let read = read_full(self.input, &mut first)?;
+        let header = replaying::read_header(&first[..read]);
+        // One lot of its size is never refused.
+        let _ = standby::start(&mut self.memory, 1);
+        replaying::open_header(&mut self.memory, header, &mut self.out);
+        self.print()?;
+        if !self.out.is_empty() {
+            return Ok(());
+        }
+        self.all_entries(header.account)?;
+        replaying::put_account(&self.memory, header.account, &mut self.out);
+        self.print()
+    }
 }
 
 fn main(rt: HostRuntime) -> io::Result<()> {
-    let mut memory = [0u8; lot::SIZE];
-    let mut out = [0u8; lines::ROOM];
-    replay(rt.stdin(), rt.stdout(), &mut memory, &mut out)
+    let mut run = Run {
+        input: rt.stdin(),
+        output: rt.stdout(),
+        memory: [0; lot::SIZE],
+        out: Text::new(),
+    };
+    run.replay()
 }

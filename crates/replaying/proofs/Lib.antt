@@ -1,4 +1,5 @@
 pub mod Printing
+pub mod Pairs
 pub mod Closes
 pub mod Records
 pub mod Steps

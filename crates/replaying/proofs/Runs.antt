@@ -1,29 +1,26 @@
 -- A whole run: what the calls of the program write out is what the page says of the header and the entries. Assumes nothing.
 use Prim.Native.Nat.{ℕ, ◌<◌}
-use mathlib.Core.Path.{◌≡◌, refl, ◌∙◌}
+use mathlib.Core.Path.{◌≡◌, refl, ap, ◌∙◌}
 use mathlib.Core.Bool.{Bool, true, false, not}
 use mathlib.Core.List.{List, ◌++◌}
 use native.Mathlib.Omega.{arith}
 use borrow.Author.Tests.{eq-eqb}
-use lib.ListN.{length, take}
-use Rattle.std.specs.Prelude.{if◌then◌else◌}
+use lib.ListN.{length}
+use Rattle.std.specs.Prelude.{if◌then◌else◌, Result, Ok, Err}
+use Rattle.model.specs.declared.Refusal.{Refusal}
 use Rattle.model.specs.Lists.{every}
 use Rattle.model.specs.Account.{Account, fresh, found}
 use Rattle.model.specs.declared.Refusal.TheVariants.{UnfitAccount}
-use Rattle.model.specs.declared.Outcome.{Outcome}
-use Rattle.model.specs.declared.Outcome.TheVariants.{Done}
-use Rattle.model.specs.declared.Opened.{Opened}
-use Rattle.model.specs.declared.Opened.TheVariants.{InLot, NotOpened}
 use Rattle.lot.specs.Layout.{SIZE}
 use Rattle.lot.specs.View.{free}
 use Rattle.lots.specs.Memory.{memory_fits, lot_fits, view_of, some_below, lowest_below, named}
 use Rattle.standby.specs.Calls.{start_answer, Started, place_for, open_answer, OpenedAs}
 use Rattle.lines.specs.Lines.{open_line}
 use Rattle.replaying.specs.declared.Header.{Header}
-use Rattle.replaying.specs.Replaying.{number_of, Printed, header_of, open_text, answer_to, HeaderOpened, account_text}
+use Rattle.replaying.specs.Replaying.{number_of, header_of, open_text, answer_to, HeaderOpened, account_text}
 use Rattle.replaying.specs.Runs as runs
 use Rattle.replaying.specs.Runs.{Steps, header_fits, account_of, Prints, EntriesCalls, Calls}
-use Rattle.replaying.proofs.Steps.{text_out, nothing_out, entry_calls}
+use Rattle.replaying.proofs.Steps.{nothing_out, entry_calls}
 
 -- ---- the header
 
@@ -36,35 +33,35 @@ record Free (m : List ℕ) : Type 0 where
   pub long : length m ≡ SIZE
   pub empty : view_of m 0 ≡ free
 
-started : (m m' : List ℕ) {r : Outcome} → length m ≡ SIZE → Started m m' 1 r → Free m'
+started : (m m' : List ℕ) {r : Result (Unit {0}) Refusal} → length m ≡ SIZE → Started m m' 1 r → Free m'
 unfolding start_answer
 started m m' {r} long w =
-    let done : r ≡ Done = w.answer ∙ rw (one_lot m long) in
+    let done : r ≡ (Ok tt) = w.answer ∙ rw (one_lot m long) in
     let f = rw done at w.freed in
     record { long = f.long ∙ long; empty = f.each 0 (omega arith) }
 
+abbrev opened_by : Bool → Result ℕ Refusal
+opened_by b = if b then Ok 0 else Err UnfitAccount
+
 -- there the account is opened in lot 0 where it fits, and refused by 15 where not
-fresh_answer : (m : List ℕ) (h : Header) → Free m → answer_to m h ≡ (if header_fits h then InLot 0 else NotOpened UnfitAccount)
+fresh_answer : (m : List ℕ) (h : Header) → Free m → answer_to m h ≡ opened_by (header_fits h)
 unfolding open_answer place_for some_below lowest_below
 fresh_answer m h f = rw (one_lot m f.long, f.empty) (go (header_fits h))
   where
-    go : (b : Bool) → (if not b then NotOpened UnfitAccount else InLot 0) ≡ (if b then InLot 0 else NotOpened UnfitAccount)
+    go : (b : Bool) → ◌≡◌ {A = Result ℕ Refusal} (if not b then Err UnfitAccount else Ok 0) (opened_by b)
     go true = refl
     go false = refl
-
-abbrev opened_by : Bool → Opened
-opened_by b = if b then InLot 0 else NotOpened UnfitAccount
 
 open_line_law : (n : ℕ) → 0 < length (open_line n)
 unfolding open_line
 open_line_law n = omega arith
 
 module _ (h : Header) where
-  open_one : (m m' : List ℕ) {out out' : List ℕ} {end : ℕ} → Free m → HeaderOpened m m' h out out' end → (b : Bool) → header_fits h ≡ b
-      → OpenedAs m m' (account_of h) (opened_by b) × Printed (open_text (opened_by b)) out out' end
+  open_one : (m m' : List ℕ) {out : List ℕ} → Free m → HeaderOpened m m' h out → (b : Bool) → header_fits h ≡ b
+      → OpenedAs m m' (account_of h) (opened_by b) × (out ≡ open_text (opened_by b))
   open_one m m' f w b e = let s : answer_to m h ≡ opened_by b = fresh_answer m h f ∙ rw e in (rw s at w.opened.opened, rw s at w.printed)
 
-  open_named : (m m' : List ℕ) → Free m → OpenedAs m m' (account_of h) (InLot 0) → named m' 1 0 h.account ≡ found (account_of h)
+  open_named : (m m' : List ℕ) → Free m → OpenedAs m m' (account_of h) (Ok 0) → named m' 1 0 h.account ≡ found (account_of h)
   unfolding named lot_fits fresh
   open_named m m' f w = rw (one_lot m' (w.0.long ∙ f.long), w.1, eq-eqb h.account h.account refl)
 
@@ -89,22 +86,22 @@ module _ (number : ℕ) where
 module _ (header : List ℕ) (entries : List (List ℕ)) where
   -- what the calls of the program write out is what the page says
   pub run_prints : {text : List ℕ} → Calls header entries text → Prints header entries text
-  run_prints (runs.refused {m} {m'} {m''} {out} {out'} {r} {end} long room s some w) = go (header_fits (header_of header)) refl
+  run_prints (runs.refused {m} {m'} {m''} {out} long s some w) = go (header_fits (header_of header)) refl
     where
       f : Free m'
       f = started m m' long s
 
-      go : (b : Bool) → header_fits (header_of header) ≡ b → Prints header entries (take end out')
-      go true e = absurd (omega (arith, (open_one (header_of header) m' m'' f w true e).1.wrote.ends))
-      go false e = rw (text_out room (open_one (header_of header) m' m'' f w false e).1) (runs.unfit e)
-  run_prints (runs.opened {m} {m'} {m''} {n} {out} {out'} {last} {last'} {text} {r} {end} long room s w es p) = go (header_fits (header_of header)) refl
+      go : (b : Bool) → header_fits (header_of header) ≡ b → Prints header entries out
+      go true e = absurd (omega (arith, ap length (open_one (header_of header) m' m'' f w true e).1))
+      go false e = rw (open_one (header_of header) m' m'' f w false e).1 (runs.unfit e)
+  run_prints (runs.opened {m} {m'} {m''} {n} {text} {out} long s w es p) = go (header_fits (header_of header)) refl
     where
       f : Free m'
       f = started m m' long s
 
-      go : (b : Bool) → header_fits (header_of header) ≡ b → Prints header entries (text ++ take end last')
+      go : (b : Bool) → header_fits (header_of header) ≡ b → Prints header entries (text ++ out)
       go true e =
           let l = entries_calls (header_of header).account es (open_named (header_of header) m' m'' f (open_one (header_of header) m' m'' f w true e).0) in
-          let q : Printed (account_text l.account) last last' end = rw l.there at p in
-          rw (text_out room q) (runs.whole e l.steps)
+          let q : out ≡ account_text l.account = rw l.there at p in
+          rw q (runs.whole e l.steps)
       go false e = absurd (omega (arith, nothing_out (open_one (header_of header) m' m'' f w false e).1, open_line_law (number_of UnfitAccount)))

@@ -1,5 +1,5 @@
--- What the program prints of each call on its one lot, lot 0 of 1, and what each function owes: the memory by the contracts of the calls, the text in the lent buffer `out`, and where it ends.
-use Rattle.std.specs.Prelude.{ℕ, suc, ◌+◌, ◌*◌, ◌≤◌, ◌≡◌, List, [], ◌++◌, ltb, length, get_or, if◌then◌else◌}
+-- What the program prints of each call on its one lot, lot 0 of 1, and what each function owes: the memory by the contracts of the calls, and the text that it leaves in `out`.
+use Rattle.std.specs.Prelude.{ℕ, suc, ◌+◌, ◌*◌, ◌≡◌, List, [], ◌++◌, ltb, length, get_or, if◌then◌else◌, Result, Ok, Err, Some, None, Option}
 use Rattle.wire.specs.Numbers.{number16}
 use Rattle.model.specs.Lists.{upward}
 use Rattle.model.specs.Account.{Account, held_count, Named, refused, found}
@@ -7,28 +7,14 @@ use Rattle.model.specs.Closing.{close, Piece, listed, LEAST_LIST, close_from}
 use Rattle.model.specs.Image.{Present, form, each}
 use Rattle.model.specs.Answers.{refusal_numbers}
 use Rattle.model.specs.declared.Refusal.{Refusal}
-use Rattle.model.specs.declared.Outcome.{Outcome}
-use Rattle.model.specs.declared.Outcome.TheVariants.{Done, Refused}
-use Rattle.model.specs.declared.Opened.{Opened}
-use Rattle.model.specs.declared.Opened.TheVariants.{InLot, NotOpened}
-use Rattle.model.specs.declared.Closed.{Closed}
-use Rattle.model.specs.declared.Closed.TheVariants.{Pieces, NotClosed}
-use Rattle.model.specs.declared.Found.{Found}
-use Rattle.model.specs.declared.Found.TheVariants as read
 use Rattle.lot.specs.View.{holds}
 use Rattle.lots.specs.Memory.{view_of, OnlyLot, named}
 use Rattle.standby.specs.Calls.{open_answer, AccountOpened, deliver_answer, Delivered, read_answer}
-use Rattle.lines.specs.Text.{Wrote, ROOM}
 use Rattle.lines.specs.Lines.{epoch_line, piece_line, record_line, held_line, entry_line, open_line}
 use Rattle.replaying.specs.declared.Header.{Header}
 
 abbrev pub number_of : Refusal → ℕ
 number_of r = (refusal_numbers r).number
-
--- the text stands at the start of the buffer, within it, and every later byte is as before
-pub record Printed (text out out' : List ℕ) (end : ℕ) : Type 0 where
-  pub wrote : Wrote text out out' 0 end
-  pub within : end ≤ ROOM
 
 -- ---- the header: account 2 bytes, f 1, k 1; one under 4 bytes is as unfit as account 0
 
@@ -38,26 +24,26 @@ header_of bytes =
     else record { account = number16 bytes 0; fragments = get_or bytes 2 0; keys = get_or bytes 3 0 }
 
 -- a refused header is printed
-abbrev pub open_text : Opened → List ℕ
-open_text (InLot lot) = []
-open_text (NotOpened r) = open_line (number_of r)
+abbrev pub open_text : Result ℕ Refusal → List ℕ
+open_text (Ok lot) = []
+open_text (Err r) = open_line (number_of r)
 
-abbrev pub answer_to : List ℕ → Header → Opened
+abbrev pub answer_to : List ℕ → Header → Result ℕ Refusal
 answer_to m h = open_answer m 1 h.account h.fragments h.keys
 
-pub record HeaderOpened (m m' : List ℕ) (h : Header) (out out' : List ℕ) (end : ℕ) : Type 0 where
+pub record HeaderOpened (m m' : List ℕ) (h : Header) (out : List ℕ) : Type 0 where
   pub opened : AccountOpened m m' 1 h.account h.fragments h.keys (answer_to m h)
-  pub printed : Printed (open_text (answer_to m h)) out out' end
+  pub printed : out ≡ open_text (answer_to m h)
 
 -- ---- an entry: a refused one is printed, with its index
 
-abbrev pub entry_text : ℕ → Outcome → List ℕ
-entry_text index Done = []
-entry_text index (Refused r) = entry_line index (number_of r)
+abbrev pub entry_text : ℕ → Result (Unit {0}) Refusal → List ℕ
+entry_text index (Ok tt) = []
+entry_text index (Err r) = entry_line index (number_of r)
 
-pub record EntryDelivered (m m' : List ℕ) (number index : ℕ) (bytes out out' : List ℕ) (end : ℕ) : Type 0 where
+pub record EntryDelivered (m m' : List ℕ) (number index : ℕ) (bytes out : List ℕ) : Type 0 where
   pub delivered : Delivered m m' 1 0 number bytes (deliver_answer m 1 0 number bytes)
-  pub printed : Printed (entry_text index (deliver_answer m 1 0 number bytes)) out out' end
+  pub printed : out ≡ entry_text index (deliver_answer m 1 0 number bytes)
 
 -- ---- a close: the epoch with the count of its pieces, and its pieces in the order of the list
 
@@ -68,22 +54,22 @@ unfoldable pub closed_text : Account → List ℕ
 closed_text a = epoch_line (suc a.closed) (length (listed a)) ++ each piece_text (listed a)
 
 -- what the close of the program is answered, with room for every piece in its list
-abbrev pub close_answer : List ℕ → ℕ → Closed
+abbrev pub close_answer : List ℕ → ℕ → Result ℕ Refusal
 close_answer m number = close_from (named m 1 0 number) LEAST_LIST
 
-abbrev pub close_text : Closed → Named → List ℕ
-close_text (NotClosed r) n = []
-close_text (Pieces count) (found a) = closed_text a
-close_text (Pieces count) (refused r) = []
+abbrev pub close_text : Result ℕ Refusal → Named → List ℕ
+close_text (Err r) n = []
+close_text (Ok count) (found a) = closed_text a
+close_text (Ok count) (refused r) = []
 
 -- the epoch of the lot's account is closed, and nothing else has changed; a refusal changes nothing
-abbrev pub LotClosed : List ℕ → List ℕ → Closed → Type 0
-LotClosed m m' (Pieces count) = OnlyLot 0 m m' × ((a : Account) → view_of m 0 ≡ holds a → view_of m' 0 ≡ holds (close a))
-LotClosed m m' (NotClosed r) = m' ≡ m
+abbrev pub LotClosed : List ℕ → List ℕ → Result ℕ Refusal → Type 0
+LotClosed m m' (Ok count) = OnlyLot 0 m m' × ((a : Account) → view_of m 0 ≡ holds a → view_of m' 0 ≡ holds (close a))
+LotClosed m m' (Err r) = m' ≡ m
 
-pub record NextClosed (m m' : List ℕ) (number : ℕ) (out out' : List ℕ) (end : ℕ) : Type 0 where
+pub record NextClosed (m m' : List ℕ) (number : ℕ) (out : List ℕ) : Type 0 where
   pub closed : LotClosed m m' (close_answer m number)
-  pub printed : Printed (close_text (close_answer m number) (named m 1 0 number)) out out' end
+  pub printed : out ≡ close_text (close_answer m number) (named m 1 0 number)
 
 -- the first n pairs of a list, as lines
 unfoldable pub pairs_text : ℕ → List ℕ → List ℕ
@@ -102,10 +88,10 @@ last_text (found a) = account_text a
 last_text (refused why) = []
 
 -- what is printed of one read, and of those of one fragment and of all
-abbrev pub found_text : ℕ → ℕ → Found → List ℕ
-found_text fragment key (read.Present value) = record_line fragment key value
-found_text fragment key read.Absent = []
-found_text fragment key (read.NotRead r) = []
+abbrev pub found_text : ℕ → ℕ → Result (Option ℕ) Refusal → List ℕ
+found_text fragment key (Ok (Some value)) = record_line fragment key value
+found_text fragment key (Ok None) = []
+found_text fragment key (Err r) = []
 
 unfoldable pub fragment_text : List ℕ → ℕ → ℕ → ℕ → List ℕ
 fragment_text m number fragment keys = upward keys 0 (λ k. found_text fragment k (read_answer m 1 0 number fragment k))

@@ -1,14 +1,13 @@
 -- A whole run of the program: what it prints of a header and entries, by the page, and the calls by which it does.
-use Rattle.std.specs.Prelude.{ℕ, suc, ◌<◌, ◌≡◌, Bool, true, false, List, [], ◌∷◌, ◌++◌, length, take}
+use Rattle.std.specs.Prelude.{ℕ, suc, ◌<◌, ◌≡◌, Bool, true, false, List, [], ◌∷◌, ◌++◌, length, Result}
+use Rattle.model.specs.declared.Refusal.{Refusal}
 use Rattle.model.specs.Account.{Account, account_fits, fresh}
 use Rattle.model.specs.declared.Refusal.TheVariants.{UnfitAccount}
-use Rattle.model.specs.declared.Outcome.{Outcome}
 use Rattle.lot.specs.Layout.{SIZE}
 use Rattle.lots.specs.Memory.{named}
 use Rattle.standby.specs.Calls.{Started}
-use Rattle.lines.specs.Text.{ROOM}
 use Rattle.lines.specs.Lines.{open_line}
-use Rattle.replaying.specs.Replaying.{number_of, Printed, header_of, HeaderOpened, account_text, last_text}
+use Rattle.replaying.specs.Replaying.{number_of, header_of, HeaderOpened, account_text, last_text}
 use Rattle.replaying.specs.Steps.{Step, EntryCalls}
 use Rattle.replaying.specs.declared.Header.{Header}
 
@@ -39,8 +38,6 @@ pub data EntriesCalls (number : ℕ) : ℕ → List (List ℕ) → List ℕ → 
 
 -- one lot of memory is started and the header opened; where that prints nothing, the entries follow, and put_account
 pub data Calls (header : List ℕ) (entries : List (List ℕ)) : List ℕ → Type 0 where
-  refused : {m m' m'' out out' : List ℕ} {r : Outcome} {end : ℕ} → length m ≡ SIZE → length out ≡ ROOM → Started m m' 1 r → 0 < end → HeaderOpened m' m'' (header_of header) out out' end
-      → Calls header entries (take end out')
-  opened : {m m' m'' n out out' last last' text : List ℕ} {r : Outcome} {end : ℕ} → length m ≡ SIZE → length last ≡ ROOM → Started m m' 1 r → HeaderOpened m' m'' (header_of header) out out' 0
-      → EntriesCalls (header_of header).account 0 entries m'' text n → Printed (last_text (named n 1 0 (header_of header).account)) last last' end
-      → Calls header entries (text ++ take end last')
+  refused : {m m' m'' out : List ℕ} {r : Result (Unit {0}) Refusal} → length m ≡ SIZE → Started m m' 1 r → 0 < length out → HeaderOpened m' m'' (header_of header) out → Calls header entries out
+  opened : {m m' m'' n text out : List ℕ} {r : Result (Unit {0}) Refusal} → length m ≡ SIZE → Started m m' 1 r → HeaderOpened m' m'' (header_of header) []
+      → EntriesCalls (header_of header).account 0 entries m'' text n → out ≡ last_text (named n 1 0 (header_of header).account) → Calls header entries (text ++ out)

@@ -1,13 +1,11 @@
 -- One entry of the program, by the page, and the calls by which the program makes that step.
-use Rattle.std.specs.Prelude.{ℕ, ◌<◌, ◌≡◌, List, [], ◌++◌, length, take}
+use Rattle.std.specs.Prelude.{ℕ, ◌<◌, ◌≡◌, List, [], ◌++◌, length, Ok, Err}
 use Rattle.model.specs.Account.{Account}
 use Rattle.model.specs.Entry.{entry_of}
 use Rattle.model.specs.Taking as model
 use Rattle.model.specs.Taking.{judge}
 use Rattle.model.specs.Closing.{judge_close, close}
 use Rattle.model.specs.declared.Refusal.{Refusal}
-use Rattle.model.specs.declared.Outcome.TheVariants.{Done, Refused}
-use Rattle.lines.specs.Text.{ROOM}
 use Rattle.lines.specs.Lines.{entry_line}
 use Rattle.replaying.specs.Replaying.{number_of, EntryDelivered, closed_text, NextClosed}
 
@@ -15,23 +13,22 @@ use Rattle.replaying.specs.Replaying.{number_of, EntryDelivered, closed_text, Ne
 
 -- the epochs of an account are closed while that can be, and printed: the account and the text, and what the account becomes
 pub data Closings : Account → List ℕ → Account → Type 0 where
-  stuck : {a : Account} → (judge_close a ≡ Done → ⊥) → Closings a [] a
-  closes : {a b : Account} {text : List ℕ} → judge_close a ≡ Done → Closings (close a) text b → Closings a (closed_text a ++ text) b
+  stuck : {a : Account} → (judge_close a ≡ (Ok tt) → ⊥) → Closings a [] a
+  closes : {a b : Account} {text : List ℕ} → judge_close a ≡ (Ok tt) → Closings (close a) text b → Closings a (closed_text a ++ text) b
 
 -- entry `index` is delivered to an account: a refused one is printed; after a taken one epochs are closed while that can be
 pub data Step (index : ℕ) (bytes : List ℕ) : Account → List ℕ → Account → Type 0 where
-  refused : {a : Account} {r : Refusal} → judge a bytes ≡ Refused r → Step index bytes a (entry_line index (number_of r)) a
-  taken : {a b : Account} {text : List ℕ} → judge a bytes ≡ Done → Closings (model.taken (entry_of bytes) a) text b → Step index bytes a text b
+  refused : {a : Account} {r : Refusal} → judge a bytes ≡ Err r → Step index bytes a (entry_line index (number_of r)) a
+  taken : {a b : Account} {text : List ℕ} → judge a bytes ≡ (Ok tt) → Closings (model.taken (entry_of bytes) a) text b → Step index bytes a text b
 
 -- ---- by the calls: the memory, what the program writes out, and the memory afterwards
 
 -- close_next, until it prints nothing
 pub data CloseCalls (number : ℕ) : List ℕ → List ℕ → List ℕ → Type 0 where
-  stop : {m m' out out' : List ℕ} → NextClosed m m' number out out' 0 → CloseCalls number m [] m'
-  again : {m m' m'' out out' text : List ℕ} {end : ℕ} → length out ≡ ROOM → 0 < end → NextClosed m m' number out out' end → CloseCalls number m' text m''
-      → CloseCalls number m (take end out' ++ text) m''
+  stop : {m m' : List ℕ} → NextClosed m m' number [] → CloseCalls number m [] m'
+  again : {m m' m'' out text : List ℕ} → 0 < length out → NextClosed m m' number out → CloseCalls number m' text m'' → CloseCalls number m (out ++ text) m''
 
 -- deliver_entry, and close_next where that printed nothing
 pub data EntryCalls (number index : ℕ) (bytes : List ℕ) : List ℕ → List ℕ → List ℕ → Type 0 where
-  printed : {m m' out out' : List ℕ} {end : ℕ} → length out ≡ ROOM → 0 < end → EntryDelivered m m' number index bytes out out' end → EntryCalls number index bytes m (take end out') m'
-  silent : {m m' m'' out out' text : List ℕ} → EntryDelivered m m' number index bytes out out' 0 → CloseCalls number m' text m'' → EntryCalls number index bytes m text m''
+  printed : {m m' out : List ℕ} → 0 < length out → EntryDelivered m m' number index bytes out → EntryCalls number index bytes m out m'
+  silent : {m m' m'' text : List ℕ} → EntryDelivered m m' number index bytes [] → CloseCalls number m' text m'' → EntryCalls number index bytes m text m''

@@ -9,16 +9,13 @@ use lib.ListN.{length, take, drop, length-append}
 use lib.Seq.{take_at, take-append-le, length-take-le}
 use borrow.Author.Tests.{ltb-true, ltb-false, lt-ltb, le-ltb}
 use Rattle.wire.specs.Numbers.{bytes32}
-use Rattle.std.specs.Prelude.{if◌then◌else◌}
+use Rattle.std.specs.Prelude.{if◌then◌else◌, Result, Ok, Err}
 use Rattle.model.specs.Account.{Account, Named, refused, found}
 use Rattle.model.specs.Closing.{LEAST_LIST, judge_room, listed, pairs, close_judged, close_from}
 use Rattle.model.specs.Image.{each}
 use Rattle.model.specs.Decoding.{parse}
-use Rattle.model.specs.declared.Closed.{Closed}
-use Rattle.model.specs.declared.Closed.TheVariants.{Pieces, NotClosed}
-use Rattle.model.specs.declared.Outcome.{Outcome}
-use Rattle.model.specs.declared.Outcome.TheVariants.{Done, Refused}
 use Rattle.model.proofs.Tests.{no_way}
+use Rattle.model.specs.declared.Refusal.{Refusal}
 use Rattle.lot.specs.View.{holds}
 use Rattle.lookback.proofs.Places.{length_parse}
 use Rattle.judging.proofs.Parts.{Bytes}
@@ -72,20 +69,20 @@ module _ (m : List ℕ) (lots lot number : ℕ) where
     held : view_of m lot ≡ holds account
     counted : count ≡ length (listed account)
 
-  counts : (count room : ℕ) → Pieces count ≡ close_from (named m lots lot number) room → Counted count
+  counts : (count room : ℕ) → Ok count ≡ close_from (named m lots lot number) room → Counted count
   counts count room e = go (named m lots lot number) refl e
     where
-      judged : (a : Account) (o : Outcome) → named m lots lot number ≡ found a → Pieces count ≡ close_judged o (length (listed a)) → Counted count
-      judged a Done q e = record { account = a; held = (holder m lots lot number q).held; counted = cc }
-      judged a (Refused r) q e = no_way cc
+      judged : (a : Account) (o : Result (Unit {0}) Refusal) → named m lots lot number ≡ found a → Ok count ≡ close_judged o (length (listed a)) → Counted count
+      judged a (Ok _) q e = record { account = a; held = (holder m lots lot number q).held; counted = cc }
+      judged a (Err r) q e = no_way cc
 
-      go : (n : Named) → named m lots lot number ≡ n → Pieces count ≡ close_from n room → Counted count
+      go : (n : Named) → named m lots lot number ≡ n → Ok count ≡ close_from n room → Counted count
       go (refused r) q e = no_way cc
       go (found a) q e = judged a (judge_room a room) q e
 
   module _ {m' list list' : List ℕ} where
     -- the numbers written are those of the pieces
-    pairs_written : (count : ℕ) → EpochClosed m m' lots lot number list list' (Pieces count) → (a : Account) → view_of m lot ≡ holds a → (length (pairs (listed a)) ≡ 2 * count)
+    pairs_written : (count : ℕ) → EpochClosed m m' lots lot number list list' (Ok count) → (a : Account) → view_of m lot ≡ holds a → (length (pairs (listed a)) ≡ 2 * count)
     unfolding close_answer
     pairs_written count w a v =
         let k = counts count (length list) w.answer in
@@ -93,24 +90,24 @@ module _ (m : List ℕ) (lots lot number : ℕ) where
         let n : length (listed k.account) ≡ length (listed a) = ap (λ b. length (listed b)) same in
         omega (arith, length_numbers (listed a), k.counted)
 
-    pub written_inside : (r : Closed) → length list' ≡ length list → EpochClosed m m' lots lot number list list' r → written_by r ≤ length list
+    pub written_inside : (r : Result ℕ Refusal) → length list' ≡ length list → EpochClosed m m' lots lot number list list' r → written_by r ≤ length list
     unfolding close_answer
-    written_inside (NotClosed r) e w = omega arith
-    written_inside (Pieces count) e w =
+    written_inside (Err r) e w = omega arith
+    written_inside (Ok count) e w =
         let k = counts count (length list) w.answer in
         let p = pairs (listed k.account) in
         let n : length p ≡ 2 * count = pairs_written count w k.account k.held in
         let l : length list' ≡ length p + length (drop (2 * count) list) = ap length (w.closed.1 k.account k.held).1 ∙ length-append p (drop (2 * count) list) in
         omega arith
 
-    other_list : (r : Closed) (other : List ℕ) → ltb (length list) LEAST_LIST ≡ ltb (length other) LEAST_LIST → EpochClosed m m' lots lot number list list' r
+    other_list : (r : Result ℕ Refusal) (other : List ℕ) → ltb (length list) LEAST_LIST ≡ ltb (length other) LEAST_LIST → EpochClosed m m' lots lot number list list' r
         → EpochClosed m m' lots lot number other (take (written_by r) list' ++ drop (written_by r) other) r
     unfolding close_answer
     other_list r other e w = record { answer = w.answer ∙ rooms_alike (named m lots lot number) (length list) (length other) e; closed = go r w }
       where
-        go : (r : Closed) → EpochClosed m m' lots lot number list list' r → ClosedAs m m' lot other (take (written_by r) list' ++ drop (written_by r) other) r
-        go (NotClosed r) w = (w.closed.0, refl)
-        go (Pieces count) w = (
+        go : (r : Result ℕ Refusal) → EpochClosed m m' lots lot number list list' r → ClosedAs m m' lot other (take (written_by r) list' ++ drop (written_by r) other) r
+        go (Err r) w = (w.closed.0, refl)
+        go (Ok count) w = (
           w.closed.0,
           λ a v.
               let d = w.closed.1 a v in
@@ -119,7 +116,7 @@ module _ (m : List ℕ) (lots lot number : ℕ) where
 
 -- ---- the list of bytes b, closed with as many of the numbers as there is room for: `left` is what the close left of these
 
-module _ (m m' : List ℕ) (lots lot number : ℕ) (b numbers left : List ℕ) (room : ℕ) (r : Closed) (all : length numbers ≡ LEAST_LIST) (is_room : room ≡ room_in (length b)) (kept : length left ≡ length (take room numbers)) (w : EpochClosed m m' lots lot number (take room numbers) left r) where
+module _ (m m' : List ℕ) (lots lot number : ℕ) (b numbers left : List ℕ) (room : ℕ) (r : Result ℕ Refusal) (all : length numbers ≡ LEAST_LIST) (is_room : room ≡ room_in (length b)) (kept : length left ≡ length (take room numbers)) (w : EpochClosed m m' lots lot number (take room numbers) left r) where
   lent_long : length (take room numbers) ≡ room_in (length b)
   lent_long = length-take-le room numbers (omega (arith, room_most (length b))) ∙ is_room
 

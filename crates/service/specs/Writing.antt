@@ -1,9 +1,8 @@
 -- What the inner functions are asked: how much of a list is lent on, how much is written back.
-use Rattle.std.specs.Prelude.{ℕ, ◌*◌, List, [], ◌∷◌, ltb, if◌then◌else◌}
+use Rattle.std.specs.Prelude.{ℕ, ◌*◌, List, [], ◌∷◌, ltb, if◌then◌else◌, Result, Ok, Err}
 use Rattle.model.specs.Lists.{upward}
 use Rattle.model.specs.Closing.{LEAST_LIST}
-use Rattle.model.specs.declared.Closed.{Closed}
-use Rattle.model.specs.declared.Closed.TheVariants.{Pieces, NotClosed}
+use Rattle.model.specs.declared.Refusal.{Refusal}
 use Rattle.overview.specs.Overview.{row_at}
 use Rattle.overview.specs.declared.Row.{Row}
 
@@ -12,9 +11,9 @@ unfoldable pub room_in : ℕ → ℕ
 room_in bytes = if ltb bytes (4 * LEAST_LIST) then 0 else LEAST_LIST
 
 -- how many numbers a close writes
-abbrev pub written_by : Closed → ℕ
-written_by (Pieces count) = 2 * count
-written_by (NotClosed r) = 0
+abbrev pub written_by : Result ℕ Refusal → ℕ
+written_by (Ok count) = 2 * count
+written_by (Err r) = 0
 
 -- the rows of the first n lots
 abbrev pub rows_at : List ℕ → ℕ → ℕ → List Row

@@ -2,100 +2,96 @@
 use Prim.Native.Nat.{ℕ, ◌-◌}
 use mathlib.Core.Path.{◌≡◌, refl, sym, ap, ◌∙◌}
 use mathlib.Core.Bool.{Bool, true, false, not}
-use mathlib.Core.Option.{Option, some, none}
 use mathlib.Core.List.{List}
 use lib.ListN.{length}
-use Rattle.std.specs.Prelude.{if◌then◌else◌}
+use Rattle.std.specs.Prelude.{if◌then◌else◌, Option, Some, None, Result, Ok, Err}
 use Rattle.model.specs.Account.{Account}
 use Rattle.model.specs.Decoding.{last_of, load}
 use Rattle.model.specs.declared.Refusal.TheVariants as refusal
-use Rattle.model.specs.declared.Opened.{Opened}
-use Rattle.model.specs.declared.Opened.TheVariants.{InLot, NotOpened}
 use Rattle.model.proofs.Tests.{no_way}
+use Rattle.model.specs.declared.Refusal.{Refusal}
 use Rattle.trailer.specs.Trailer.{numbers_of}
 use Rattle.trailer.specs.declared.Trailer.{Trailer}
 use Rattle.judging.specs.Judging.{trailer_of, judged_as, judged_of}
-use Rattle.judging.specs.declared.Judged.TheVariants.{NotAccepted, Accepted}
 use Rattle.judging.proofs.Parts.{Bytes}
 use Rattle.judging.proofs.Passing.{last_part, part_from_law, accepted_numbers}
 use Rattle.lots.specs.Memory.{memory_fits, view_of, is_damaged, some_below}
 use Rattle.lots.specs.Looks.{survey_of, place_in}
-use Rattle.standby.specs.Calls.{place_for}
 use Rattle.standby.specs.Images.{load_from, load_answer}
-use Rattle.standby.proofs.Calls.{Placing, placing}
+use Rattle.standby.proofs.Calls.{Placing, placing, placed}
 
 -- ---- what judged data show
 
 -- the account of accepted data, of which t are the numbers
 pub record Shown (given : List ℕ) (t : Trailer) : Type 0 where
   pub account : Account
-  pub is_loaded : load given ≡ some account
+  pub is_loaded : load given ≡ Some account
   pub numbers : t ≡ trailer_of account
 
 module _ (given : List ℕ) where
-  pub accepted_shows : {t : Trailer} → judged_of given ≡ Accepted t → Shown given t
+  pub accepted_shows : {t : Trailer} → judged_of given ≡ Some t → Shown given t
   unfolding judged_of
   accepted_shows {t} e = go (load given) refl e
     where
-      go : (o : Option Account) → load given ≡ o → judged_as o ≡ Accepted t → Shown given t
-      go none q e = no_way cc
-      go (some a) q e = record { account = a; is_loaded = q; numbers = cc }
+      go : (o : Option Account) → load given ≡ o → judged_as o ≡ Some t → Shown given t
+      go None q e = no_way cc
+      go (Some a) q e = record { account = a; is_loaded = q; numbers = cc }
 
-  refused_shows : judged_of given ≡ NotAccepted → load given ≡ none
+  refused_shows : judged_of given ≡ None → load given ≡ None
   unfolding judged_of
   refused_shows e = go (load given) refl e
     where
-      go : (o : Option Account) → load given ≡ o → judged_as o ≡ NotAccepted → o ≡ none
-      go none q e = refl
-      go (some a) q e = no_way cc
+      go : (o : Option Account) → load given ≡ o → judged_as o ≡ None → o ≡ None
+      go None q e = refl
+      go (Some a) q e = no_way cc
 
   -- the numbers in the last 24 bytes are those of the account
-  pub trailer_numbers : Bytes given → {a : Account} → load given ≡ some a → judged_of given ≡ Accepted (numbers_of (last_of 24 given))
+  pub trailer_numbers : Bytes given → {a : Account} → load given ≡ Some a → judged_of given ≡ Some (numbers_of (last_of 24 given))
   unfolding judged_of
-  trailer_numbers b {a} e = let q : judged_of given ≡ Accepted (trailer_of a) = rw e in q ∙ ap Accepted (accepted_numbers given (trailer_of a) b q)
+  trailer_numbers b {a} e = let q : judged_of given ≡ Some (trailer_of a) = rw e in q ∙ ap Some (accepted_numbers given (trailer_of a) b q)
 
-  pub trailer_read : {t : Trailer} → t ≡ numbers_of (last_part given) → judged_of given ≡ Accepted (numbers_of (last_of 24 given)) → judged_of given ≡ Accepted t
+  pub trailer_read : {t : Trailer} → t ≡ numbers_of (last_part given) → judged_of given ≡ Some (numbers_of (last_of 24 given)) → judged_of given ≡ Some t
   unfolding last_of
-  trailer_read e q = q ∙ ap Accepted (sym (e ∙ ap numbers_of (part_from_law given (length given - 24))))
+  trailer_read e q = q ∙ ap Some (sym (e ∙ ap numbers_of (part_from_law given (length given - 24))))
 
 -- ---- the answers
 
 module _ (m : List ℕ) (lots : ℕ) (given : List ℕ) where
-  pub load_nowhere : memory_fits lots m ≡ false → NotOpened refusal.NoSuchLot ≡ load_answer m lots given
+  pub load_nowhere : memory_fits lots m ≡ false → Err refusal.NoSuchLot ≡ load_answer m lots given
   unfolding load_answer
   load_nowhere e = rw e
 
   -- number: the account of the data, if they show one
   module _ (there : memory_fits lots m ≡ true) (number : ℕ) where
-    pub load_damaged : (survey_of m number lots).damaged ≡ true → NotOpened refusal.Damaged ≡ load_answer m lots given
+    pub load_damaged : (survey_of m number lots).damaged ≡ true → Err refusal.Damaged ≡ load_answer m lots given
     unfolding load_answer survey_of
     load_damaged e = rw (there, e)
 
     module _ (whole : (survey_of m number lots).damaged ≡ false) where
-      pub load_refused : judged_of given ≡ NotAccepted → NotOpened refusal.NotAccepted ≡ load_answer m lots given
+      pub load_refused : judged_of given ≡ None → Err refusal.NotAccepted ≡ load_answer m lots given
       unfolding load_answer survey_of
       load_refused e = rw (there, whole, refused_shows given e)
 
-      pub load_placed : {t : Trailer} → judged_of given ≡ Accepted t → number ≡ t.number → place_in (survey_of m number lots) ≡ load_answer m lots given
-      unfolding load_answer survey_of place_for trailer_of
+      pub load_placed : {t : Trailer} → judged_of given ≡ Some t → number ≡ t.account.number → place_in (survey_of m number lots) ≡ load_answer m lots given
+      unfolding load_answer survey_of trailer_of
       load_placed e q =
           let s = accepted_shows given e in
-          let n : s.account.number ≡ number = sym (q ∙ ap (λ t. t.number) s.numbers) in
-          rw (there, whole, s.is_loaded, n)
+          let n : s.account.number ≡ number = sym (q ∙ ap (λ t. t.account.number) s.numbers) in
+          rw (there, whole, s.is_loaded, n) (placed m lots number)
 
   -- where data are loaded there is such a lot, and they show an account
   pub record Loading (i : ℕ) : Type 0 where
     pub there : memory_fits lots m ≡ true
     pub place : Placing m lots i
     pub account : Account
-    pub shows : load given ≡ some account
+    pub shows : load given ≡ Some account
 
-  pub loading : {i : ℕ} {r : Opened} → r ≡ load_answer m lots given → r ≡ InLot i → Loading i
+  pub loading : {i : ℕ} {r : Result ℕ Refusal} → r ≡ load_answer m lots given → r ≡ Ok i → Loading i
   unfolding load_answer
   loading {i} q e = go (memory_fits lots m) (some_below (λ j. is_damaged (view_of m j)) lots) (load given) refl refl (sym q ∙ e)
     where
-      go : (a b : Bool) (o : Option Account) → memory_fits lots m ≡ a → load given ≡ o → (if not a then NotOpened refusal.NoSuchLot else if b then NotOpened refusal.Damaged else load_from m lots o) ≡ InLot i → Loading i
+      go : (a b : Bool) (o : Option Account) → memory_fits lots m ≡ a → load given ≡ o → (if not a then Err refusal.NoSuchLot else if b then Err refusal.Damaged else load_from m lots o) ≡ Ok i → Loading i
       go false b o x y e = no_way cc
       go true true o x y e = no_way cc
-      go true false none x y e = no_way cc
-      go true false (some a) x y e = record { there = x; place = placing m lots a.number x e; account = a; shows = y }
+      go true false None x y e = no_way cc
+      go true false (Some a) x y e = record { there = x; place = placing m lots a.number x e; account = a; shows = y }

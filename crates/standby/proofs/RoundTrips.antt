@@ -3,22 +3,18 @@ use Prim.Native.Nat.{ℕ, ◌<◌}
 use mathlib.Core.Path.{◌≡◌, refl, sym, ap, ◌∙◌}
 use mathlib.Core.Logic.{◌≢◌}
 use mathlib.Core.Bool.{Bool, true, false}
-use mathlib.Core.Option.{some}
 use mathlib.Core.List.{List, [], ◌++◌}
 use lib.ListN.{length, take}
 use native.Mathlib.Omega.{arith}
 use borrow.Author.Tests.{leb-true, ne_eqb}
-use Rattle.std.specs.Prelude.{if◌then◌else◌}
+use Rattle.std.specs.Prelude.{if◌then◌else◌, Some, Result, Ok, Err}
 use Rattle.model.specs.Account.{Account}
 use Rattle.model.specs.Image.{image}
 use Rattle.model.specs.Decoding.{load}
 use Rattle.model.specs.declared.Refusal.TheVariants.{NoSuchLot}
-use Rattle.model.specs.declared.Outcome.TheVariants.{Done, Refused}
-use Rattle.model.specs.declared.Saved.TheVariants.{Length}
-use Rattle.model.specs.declared.Opened.{Opened}
-use Rattle.model.specs.declared.Opened.TheVariants.{InLot, NotOpened}
 use Rattle.model.proofs.Tests.{no_way, nth}
 use Rattle.model.proofs.Image.{loads_exactly, save_load, reads_no_more}
+use Rattle.model.specs.declared.Refusal.{Refusal}
 use Rattle.trailer.specs.Trailer.{numbers_of}
 use Rattle.lot.specs.View.{Lot, free, damaged, holds}
 use Rattle.lot.proofs.Views.{holds_well_formed}
@@ -30,7 +26,7 @@ use Rattle.standby.specs.RoundTrips.{SaveCall, LoadCall, Wrote, EndsWith, RoomFo
 use Rattle.standby.proofs.Saving.{SaveDone, saving, image_written, save_with_room}
 use Rattle.standby.proofs.Loading.{loading}
 
-loaded_as : (l : LoadCall) {i : ℕ} → l.answer ≡ InLot i → LoadedAs l.memory_before l.memory_after l.given (InLot i)
+loaded_as : (l : LoadCall) {i : ℕ} → l.answer ≡ Ok i → LoadedAs l.memory_before l.memory_after l.given (Ok i)
 loaded_as l q = rw q at l.kept.loaded
 
 -- ---- what a save wrote is the image of the account that the lot holds
@@ -38,7 +34,7 @@ loaded_as l q = rw q at l.kept.loaded
 abbrev DoneAs : SaveCall → ℕ → Type 0
 DoneAs s n = SaveDone s.memory s.lots s.lot s.account s.buffer_before n
 
-module _ (s : SaveCall) {n : ℕ} (q : s.answer ≡ Length n) where
+module _ (s : SaveCall) {n : ℕ} (q : s.answer ≡ Ok n) where
   done_as : DoneAs s n
   done_as = saving s.memory s.lots s.lot s.account s.buffer_before (sym q ∙ s.kept.answer)
 
@@ -49,7 +45,7 @@ module _ (s : SaveCall) {n : ℕ} (q : s.answer ≡ Length n) where
   pub first_bytes : Wrote s (take n s.buffer_after)
   first_bytes =
       let long : length (take n s.buffer_after) ≡ n = ap length (image_in_front done_as) ∙ sym done_as.long in
-      record { length_answered = q ∙ ap Length (sym long); in_front = ap (λ k. take k s.buffer_after) long }
+      record { length_answered = q ∙ ap Ok (sym long); in_front = ap (λ k. take k s.buffer_after) long }
 
 module _ {s : SaveCall} {written : List ℕ} (w : Wrote s written) where
   done : DoneAs s (length written)
@@ -74,14 +70,14 @@ same_image_same_account {s} {t} v w =
 -- ---- a saved image loads to the account it was saved from
 
 -- a standby that was just started has room for any account
-pub started_has_room : {m m' : List ℕ} {lots : ℕ} → Started m m' lots Done → (account : ℕ) → RoomFor m' lots account
+pub started_has_room : {m m' : List ℕ} {lots : ℕ} → Started m m' lots (Ok tt) → (account : ℕ) → RoomFor m' lots account
 unfolding start_answer memory_fits
 started_has_room {m} {m'} {lots} w account = go (memory_fits lots m) refl w.answer
   where
     never : (i : ℕ) → i < lots → (v : Lot) → view_of m' i ≡ v → is_free v ≡ false → ⊥
     never i h v e q = let z : ◌≡◌ {A = ℕ} 0 1 = no_way (sym q ∙ ap is_free (sym e ∙ w.freed.each i h)) in omega arith
 
-    go : (t : Bool) → memory_fits lots m ≡ t → Done ≡ (if t then Done else Refused NoSuchLot) → RoomFor m' lots account
+    go : (t : Bool) → memory_fits lots m ≡ t → Ok (tt {0}) ≡ (if t then Ok (tt {0}) else Err NoSuchLot) → RoomFor m' lots account
     go false x e = no_way cc
     go true x e =
         record {
@@ -111,7 +107,7 @@ module _ {m : List ℕ} {lots account : ℕ} (room : RoomFor m lots account) whe
   some_free = one_passes (free_in m) lots room.free_lot room.is_there (ap is_free room.lot_is_free)
 
   -- data that show the account are loaded into the free lot with the lowest number
-  loads_there : (given : List ℕ) {a : Account} → load given ≡ some a → a.number ≡ account → load_answer m lots given ≡ InLot (lowest_below (free_in m) lots)
+  loads_there : (given : List ℕ) {a : Account} → load given ≡ Some a → a.number ≡ account → load_answer m lots given ≡ Ok (lowest_below (free_in m) lots)
   unfolding load_answer place_for
   loads_there given shows own =
       let whole = none_passes (λ i. is_damaged (view_of m i)) lots (λ i h. not_damaged (view_of m i) (room.none_damaged i h)) in
@@ -122,7 +118,7 @@ pub saved_image_loads : (s : SaveCall) (l : LoadCall) {written : List ℕ} → W
 unfolding view_of
 saved_image_loads s l w e room =
     let d = done w in
-    let shows : load l.given ≡ some d.account = ap load (e.ends ∙ ap (λ x. e.front ++ x) (is_image w)) ∙ save_load (holds_well_formed (lot_of s.memory s.lot) d.here.held) e.front in
+    let shows : load l.given ≡ Some d.account = ap load (e.ends ∙ ap (λ x. e.front ++ x) (is_image w)) ∙ save_load (holds_well_formed (lot_of s.memory s.lot) d.here.held) e.front in
     let answered = l.kept.answer ∙ loads_there room l.given shows d.here.numbered in
     let becomes = loaded_as l answered d.account shows in
     record {
@@ -142,7 +138,7 @@ accepted_image_saves l s p =
     let o = loading l.memory_before l.lots l.given l.kept.answer p.loaded in
     let a = o.account in
     let held : view_of s.memory s.lot ≡ holds a = p.unchanged ∙ (loaded_as l p.loaded a o.shows).1 in
-    let answer : s.answer ≡ Length (length (image a)) = s.kept.answer ∙ save_with_room s.memory s.lots s.lot s.account s.buffer_before p.there held (p.own_account a held) p.room in
+    let answer : s.answer ≡ Ok (length (image a)) = s.kept.answer ∙ save_with_room s.memory s.lots s.lot s.account s.buffer_before p.there held (p.own_account a held) p.room in
     let x = (loads_exactly l.given a).0 o.shows in
     let d : DoneAs s (length (image a)) = record { account = a; here = record { there = p.there; held = held; numbered = p.own_account a held }; long = refl } in
     record {
@@ -154,12 +150,12 @@ accepted_image_saves l s p =
 -- ---- load reads no more than the image
 
 -- data that agree on such last bytes are answered alike, and leave the same
-pub load_reads_no_more : {last : List ℕ} → WholeImage last → (front other_front : List ℕ) {m m' : List ℕ} {lots : ℕ} {r : Opened} → AccountLoaded m m' lots (front ++ last) r → AccountLoaded m m' lots (other_front ++ last) r
+pub load_reads_no_more : {last : List ℕ} → WholeImage last → (front other_front : List ℕ) {m m' : List ℕ} {lots : ℕ} {r : Result ℕ Refusal} → AccountLoaded m m' lots (front ++ last) r → AccountLoaded m m' lots (other_front ++ last) r
 unfolding load_answer numbers_of
 load_reads_no_more {last} w front other_front {m} {m'} {lots} {r} c =
     let e = reads_no_more front other_front last w.trailer w.as_many in
     record { answer = rw (← e) c.answer; loaded = go r c.loaded e }
   where
-    go : (r : Opened) → LoadedAs m m' (front ++ last) r → load (front ++ last) ≡ load (other_front ++ last) → LoadedAs m m' (other_front ++ last) r
-    go (InLot i) c e = λ a q. c a (e ∙ q)
-    go (NotOpened x) c e = c
+    go : (r : Result ℕ Refusal) → LoadedAs m m' (front ++ last) r → load (front ++ last) ≡ load (other_front ++ last) → LoadedAs m m' (other_front ++ last) r
+    go (Ok i) c e = λ a q. c a (e ∙ q)
+    go (Err x) c e = c

@@ -1,12 +1,9 @@
 -- Saving and loading by the calls: what is supposed of a save and a later load, or of a load and a later save, and what then follows. The two may come from different memories and runs.
-use Rattle.std.specs.Prelude.{ℕ, ◌≤◌, ◌<◌, ◌≡◌, ◌≢◌, true, List, ◌++◌, length, take}
+use Rattle.std.specs.Prelude.{ℕ, ◌≤◌, ◌<◌, ◌≡◌, ◌≢◌, true, List, ◌++◌, length, take, Result, Ok}
 use Rattle.model.specs.Account.{Account}
 use Rattle.model.specs.Image.{LONGEST_IMAGE}
 use Rattle.model.specs.Decoding.{last_of}
-use Rattle.model.specs.declared.Saved.{Saved}
-use Rattle.model.specs.declared.Saved.TheVariants.{Length}
-use Rattle.model.specs.declared.Opened.{Opened}
-use Rattle.model.specs.declared.Opened.TheVariants.{InLot}
+use Rattle.model.specs.declared.Refusal.{Refusal}
 use Rattle.trailer.specs.Trailer.{numbers_of}
 use Rattle.lot.specs.View.{free, damaged, holds}
 use Rattle.lots.specs.Memory.{memory_fits, lot_fits, view_of, OnlyLot, is_free, Lowest}
@@ -21,7 +18,7 @@ pub record SaveCall : Type 0 where
   pub account : ℕ
   pub buffer_before : List ℕ
   pub buffer_after : List ℕ
-  pub answer : Saved
+  pub answer : Result ℕ Refusal
   pub kept : AccountSaved memory lots lot account buffer_before buffer_after answer
 
 pub record LoadCall : Type 0 where
@@ -29,12 +26,12 @@ pub record LoadCall : Type 0 where
   pub memory_after : List ℕ
   pub lots : ℕ
   pub given : List ℕ
-  pub answer : Opened
+  pub answer : Result ℕ Refusal
   pub kept : AccountLoaded memory_before memory_after lots given answer
 
 -- the save was done, and this is the image that it wrote
 pub record Wrote (s : SaveCall) (written : List ℕ) : Type 0 where
-  pub length_answered : s.answer ≡ Length (length written)
+  pub length_answered : s.answer ≡ Ok (length written)
   pub in_front : take (length written) s.buffer_after ≡ written
 
 -- the data end with these bytes; longer data may stand before them
@@ -56,7 +53,7 @@ pub record RoomFor (memory : List ℕ) (lots account : ℕ) : Type 0 where
 -- the answer is the free lot with the lowest number, which holds the account that was saved; every other byte stays
 pub record LoadedBack (s : SaveCall) (l : LoadCall) : Type 0 where
   pub lot : ℕ
-  pub answered : l.answer ≡ InLot lot
+  pub answered : l.answer ≡ Ok lot
   pub lowest_free : Lowest (λ i. is_free (view_of l.memory_before i)) l.lots lot
   pub account : Account
   pub saved_from : view_of s.memory s.lot ≡ holds account
@@ -68,7 +65,7 @@ pub record LoadedBack (s : SaveCall) (l : LoadCall) : Type 0 where
 -- the lot and the account that the save names hold what the load left, and the buffer has room for the longest image
 pub record SaveOfLoaded (l : LoadCall) (s : SaveCall) : Type 0 where
   pub lot : ℕ
-  pub loaded : l.answer ≡ InLot lot
+  pub loaded : l.answer ≡ Ok lot
   pub unchanged : view_of s.memory s.lot ≡ view_of l.memory_after lot
   pub there : lot_fits s.lots s.lot s.memory ≡ true
   pub own_account : (a : Account) → view_of s.memory s.lot ≡ holds a → a.number ≡ s.account

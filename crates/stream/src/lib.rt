@@ -9,22 +9,17 @@ ghost use Rattle.model.specs.Taking.{stepped};
 
 use model::Counters;
 
+// `mark` is a Bool in the model's `stepped` and its theorems, and so it is here.
+
 // The counters after a taken entry. A mark that is taken carries the open epoch, so that is one that a mark can carry.
+#[tactic(auto, unfolding(model::specs::Taking::stepped))]
 pub fn stepped(c: Counters, mark: bool) -> Counters
     requires { mark ≡ true → c.epoch ≤ LAST_MARK }
     ensures { result ≡ stepped c mark }
 {
-    let taken = c.next;
-    let epoch = c.epoch;
-    let next = std::num::wrapping_add_u16(taken, 1);
-    if mark {
-        let raised = epoch + 1;
-        Counters {
-            next,
-            epoch: raised,
-        }
-    } else {
-        Counters { next, epoch }
+    Counters {
+        next: c.next.wrapping_add(1),
+        epoch: if mark { c.epoch + 1 } else { c.epoch },
     }
 }
 
@@ -33,8 +28,7 @@ pub fn step_in_place(c: &mut Counters, mark: bool)
     requires { mark ≡ true → c.old.epoch ≤ LAST_MARK }
     ensures { c.new ≡ stepped c.old mark }
 {
-    let n = stepped(*c, mark);
-    *c = n;
+    *c = stepped(*c, mark);
 }
 
 // The same, of two numbers.

@@ -1,6 +1,8 @@
 -- The judgement from a look at a lot: a law for each of its answers. Assumes nothing.
+use Rattle.std.specs.Prelude.{Bool, ℤ, if◌then◌else◌, Result, Ok, Err}
+use Rattle.model.specs.Distance.{distance, below_zero, above_zero}
 use Prim.Native.Nat.{ℕ, ◌+◌, ◌*◌, ◌≤◌, ◌<◌}
-use mathlib.Core.Path.{◌≡◌, ◌∙◌}
+use mathlib.Core.Path.{◌≡◌, ◌∙◌, refl}
 use mathlib.Core.Bool.{true, false}
 use mathlib.Core.List.{List}
 use native.Mathlib.Omega.{arith}
@@ -15,13 +17,11 @@ use Rattle.model.specs.Section.{items}
 use Rattle.model.specs.declared.Entry.{Entry}
 use Rattle.model.specs.declared.Stage.{Stage}
 use Rattle.model.specs.declared.Counters.{Counters}
-use Rattle.model.specs.declared.Outcome.{Outcome}
-use Rattle.model.specs.declared.Outcome.TheVariants.{Done, Refused}
 use Rattle.model.specs.declared.Refusal.TheVariants.{WrongLength, Unfit, OutsideAccount, Seen, Gap, OutOfTurn, Full}
+use Rattle.model.proofs.Tests.{no_way}
 use Rattle.model.proofs.Judged.{own_fragment}
+use Rattle.model.specs.declared.Refusal.{Refusal}
 use Rattle.entry.specs.Sequence.{sequence_of}
-use Rattle.entry.specs.declared.Sequence.TheVariants as sequence
-use Rattle.entry.proofs.Sequences.{says}
 use Rattle.lot.specs.Layout.{streams_of, places_of}
 use Rattle.lot.specs.declared.Account as numbers
 use Rattle.lot.proofs.Lengths.{length_streams, length_places}
@@ -32,54 +32,63 @@ use Rattle.taking.specs.Delivering.{judge_due, judge_inside, EntryJudged, Judged
 -- ---- 10 and 11, of an entry that is no mark
 
 module _ (o n : ℕ) (s : Stage) (e : Entry) (no_mark : e.kind ≡ MARK → ⊥) where
-  pub out_of_turn : takes e.kind s ≡ false → Refused OutOfTurn ≡ judge_due o s n e
+  pub out_of_turn : takes e.kind s ≡ false → Err OutOfTurn ≡ judge_due o s n e
   unfolding judge_due
   out_of_turn t = rw (ne_eqb e.kind MARK no_mark, t)
 
   module _ (t : takes e.kind s ≡ true) where
-    pub taken : n < MOST_HELD → Done ≡ judge_due o s n e
+    pub taken : n < MOST_HELD → Ok tt ≡ judge_due o s n e
     unfolding judge_due
     taken l = rw (ne_eqb e.kind MARK no_mark, t, lt-leb MOST_HELD n l)
 
-    pub full : MOST_HELD ≤ n → Refused Full ≡ judge_due o s n e
+    pub full : MOST_HELD ≤ n → Err Full ≡ judge_due o s n e
     unfolding judge_due
     full l = rw (ne_eqb e.kind MARK no_mark, t, le-leb MOST_HELD n l)
 
 -- ---- 7 and 8
 
 module _ (c : Counters) (hs : List Held) (n : ℕ) (e : Entry) where
-  pub seen : sequence.Seen ≡ sequence_of e.sequence c.next → Refused Seen ≡ judge_inside c hs n e
-  unfolding judge_inside
-  seen q = let s = rw (← q) at (says e.sequence c.next) in rw s
+  abbrev d : ℤ
+  d = distance e.sequence c.next
 
-  pub gap : sequence.Gap ≡ sequence_of e.sequence c.next → Refused Gap ≡ judge_inside c hs n e
-  unfolding judge_inside
-  gap q = let s = rw (← q) at (says e.sequence c.next) in rw (s.0, s.1)
+  pub not_due : {r : Refusal} → Err r ≡ sequence_of e.sequence c.next → Err r ≡ judge_inside c hs n e
+  unfolding judge_inside sequence_of
+  not_due {r} q = go (below_zero d) (above_zero d) _ q
+    where
+      go : (b a : Bool) (o : Result (Unit {0}) Refusal) → Err r ≡ (if b then Err Seen else if a then Err Gap else Ok (tt {0})) → Err r ≡ (if b then Err Seen else if a then Err Gap else o)
+      go true a o q = q
+      go false true o q = q
+      go false false o q = no_way cc
 
-  pub due : sequence.Due ≡ sequence_of e.sequence c.next → judge_due c.epoch (stage e.transaction hs) n e ≡ judge_inside c hs n e
-  unfolding judge_inside
-  due q = let s = rw (← q) at (says e.sequence c.next) in rw (s.0, s.1)
+  pub due : Ok tt ≡ sequence_of e.sequence c.next → judge_due c.epoch (stage e.transaction hs) n e ≡ judge_inside c hs n e
+  unfolding judge_inside sequence_of
+  due q = go (below_zero d) (above_zero d) _ q
+    where
+      go : (b a : Bool) (o : Result (Unit {0}) Refusal) → Ok (tt {0}) ≡ (if b then Err Seen else if a then Err Gap else Ok (tt {0})) → o ≡ (if b then Err Seen else if a then Err Gap else o)
+      go true a o q = no_way cc
+      go false true o q = no_way cc
+      go false false o q = refl
 
 -- ---- 4
 
 module _ (l bytes : List ℕ) where
-  pub wrong_length : (length bytes ≡ LENGTH → ⊥) → Judged l bytes (Refused WrongLength)
+  pub wrong_length : (length bytes ≡ LENGTH → ⊥) → Judged l bytes (Err WrongLength)
   unfolding judge
   wrong_length q a v = rw (ne_eqb (length bytes) LENGTH q)
 
-  pub of_entry : {r : Outcome} → length bytes ≡ LENGTH → EntryJudged l (entry_of bytes) r → Judged l bytes r
+  pub of_entry : {r : Result (Unit {0}) Refusal} → length bytes ≡ LENGTH → EntryJudged l (entry_of bytes) r → Judged l bytes r
   unfolding judge
   of_entry q w a v = rw (eq-eqb (length bytes) LENGTH q) (w a v)
 
 -- ---- 5 to 11
 
 module _ (l : List ℕ) (e : Entry) where
-  pub unfit : fits e ≡ false → EntryJudged l e (Refused Unfit)
+  pub unfit : fits e ≡ false → EntryJudged l e (Err Unfit)
   unfolding judge_entry
   unfit q a v = rw q
 
   module _ {n : numbers.Account} (k : Looked l n) (fit : fits e ≡ true) where
-    pub outside : inside n.fragments n.keys e ≡ false → EntryJudged l e (Refused OutsideAccount)
+    pub outside : inside n.fragments n.keys e ≡ false → EntryJudged l e (Err OutsideAccount)
     unfolding judge_entry
     outside q a v = let o = rw (known k a v).numbers_are at q in rw (fit, o)
 
@@ -91,7 +100,7 @@ module _ (l : List ℕ) (e : Entry) where
           let m = own_fragment _ _ e (rw w.numbers_are at within) in
           (omega (arith, w.few, length_streams l k.size), length_places l k.size, rw w.numbers_are w.room)
 
-      pub judged : {r : Outcome} → r ≡ judge_inside (counters_of (drop (e.fragment * 8) (streams_of l))) (mine e.fragment (items n.held (places_of l))) n.held e → EntryJudged l e r
+      pub judged : {r : Result (Unit {0}) Refusal} → r ≡ judge_inside (counters_of (drop (e.fragment * 8) (streams_of l))) (mine e.fragment (items n.held (places_of l))) n.held e → EntryJudged l e r
       unfolding judge_entry judge_inside judge_due
       judged d a v =
           let w = known k a v in

@@ -8,7 +8,7 @@ use native.Mathlib.Decide.{ℕ_discrete}
 use lib.Dec.{leb, eqb}
 use lib.ListN.{length, drop}
 use borrow.Author.Tests.{eqb-true, eq-eqb, ne_eqb, leb-true}
-use Rattle.std.specs.Prelude.{if◌then◌else◌}
+use Rattle.std.specs.Prelude.{if◌then◌else◌, Ok, Err}
 use Rattle.model.specs.Entry.{LENGTH, LAST_MARK, entry_of, is_mark, fits, fields_fit}
 use Rattle.model.specs.Account.{Account, held_count}
 use Rattle.model.specs.Taking.{judge_entry, judge, stepped, take, taken}
@@ -16,7 +16,6 @@ use Rattle.model.specs.Accepting.{WellFormed}
 use Rattle.model.specs.Decoding.{counters_of, mine}
 use Rattle.model.specs.Section.{items}
 use Rattle.model.specs.declared.Entry.{Entry}
-use Rattle.model.specs.declared.Outcome.TheVariants.{Done, Refused}
 use Rattle.model.specs.declared.Refusal.TheVariants.{WrongLength}
 use Rattle.model.proofs.Tests.{no_way, and_r, nth}
 use Rattle.model.proofs.Judged.{TakenFacts, taken_facts}
@@ -53,11 +52,11 @@ module _ (l bytes : List ℕ) {n : numbers.Account} (d : Due l n bytes) where
   i = (entry_of bytes).fragment
 
   module _ (a : Account) (v : view_lot l ≡ holds a) where
-    judged : (length bytes ≡ LENGTH) × (judge_entry a (entry_of bytes) ≡ Done)
+    judged : (length bytes ≡ LENGTH) × (judge_entry a (entry_of bytes) ≡ Ok tt)
     unfolding judge
     judged = go (eqb (length bytes) LENGTH) refl (sym (d.done a v))
       where
-        go : (b : Bool) → eqb (length bytes) LENGTH ≡ b → (if not b then Refused WrongLength else judge_entry a (entry_of bytes)) ≡ Done → (length bytes ≡ LENGTH) × (judge_entry a (entry_of bytes) ≡ Done)
+        go : (b : Bool) → eqb (length bytes) LENGTH ≡ b → (if not b then Err WrongLength else judge_entry a (entry_of bytes)) ≡ Ok tt → (length bytes ≡ LENGTH) × (judge_entry a (entry_of bytes) ≡ Ok tt)
         go true q p = (eqb-true (length bytes) LENGTH q, p)
         go false q p = no_way cc
 

@@ -1,9 +1,8 @@
 -- One section of a lot written: the counters of a stream stepped, and an entry held. Assumes nothing.
-use Prim.Native.Nat.{ℕ, ◌+◌, ◌*◌, ◌<◌, ◌≤◌, ◌^◌}
+use Prim.Native.Nat.{ℕ, ◌*◌, ◌<◌, ◌^◌}
 use mathlib.Core.Path.{◌≡◌, ap, ◌∙◌}
 use mathlib.Core.Bool.{Bool}
 use mathlib.Core.List.{List, ◌++◌}
-use native.Mathlib.Omega.{arith}
 use lib.ListN.{length, take, drop}
 use Rattle.model.specs.Taking.{stepped}
 use Rattle.model.specs.Decoding.{counters_of}
@@ -12,14 +11,10 @@ use Rattle.places.specs.Places.{EntryHeld}
 use Rattle.lot.specs.Layout.{SIZE, streams_of, places_of}
 use Rattle.writes.specs.Sections.{WithStreams}
 use Rattle.lot.specs.Writing.{with_counters}
-use Rattle.lot.proofs.Lengths.{length_streams}
 use Rattle.writes.proofs.Parts.{places_lent}
 use Rattle.taking.specs.Delivering.{StreamStepped, HeldIn}
 
 module _ (l : List ℕ) (size : length l ≡ SIZE) where
-  pub streams_room : (s : List ℕ) {i : ℕ} → i < 8 → s ≡ streams_of l → i * 8 + 8 ≤ length s
-  streams_room s low e = rw e (omega (arith, length_streams l size))
-
   pub held_in_law : (q : List ℕ) {bytes : List ℕ} {n o : ℕ} → length q ≡ 5120 → EntryHeld (places_of l) q n bytes o → HeldIn l (take 80 l ++ (q ++ drop 5120 (drop 80 l))) n bytes o
   held_in_law q long e = let w = places_lent l q size long in record { places = rw w.places w; held = rw w.places e }
 

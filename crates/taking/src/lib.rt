@@ -11,65 +11,65 @@ ghost use Rattle.lot.specs.Layout.{SIZE, streams_of};
 ghost use Rattle.lot.specs.Look.{Looked};
 ghost use Rattle.taking.specs.Delivering.{judge_due, judge_inside, EntryJudged, Judged, Due, StreamStepped, HeldIn, one_more, Taken, Delivered};
 
-use entry::Sequence;
-use lot::{Account, Look};
-use model::{Entry, Outcome, Refusal};
+use lookback::Section;
+use lot::Account;
+use model::{Entry, Refusal};
 
 // Refusals 9, 10 and 11, of an entry that is due.
-fn judge_due(places: &[u8], held: u16, open: u32, e: Entry) -> Outcome
-    requires { (length places.now ≡ 5120) × (held ≤ 256) }
-    ensures { result ≡ judge_due «open» (stage e.transaction (mine e.fragment (items held places.now))) held e }
+fn judge_due(held: Section, open: u32, e: Entry) -> Result<(), Refusal>
+    ensures { result ≡ judge_due «open» (stage e.transaction (mine e.fragment (items held.entry.count held.entry.bytes.now))) held.entry.count e }
 {
     if e.kind == Entry::MARK {
         if e.transaction == open {
-            return Outcome::Done;
+            return Ok(());
         }
-        return Outcome::Refused(Refusal::WrongMark);
+        return Err(Refusal::WrongMark);
     }
-    let s = lookback::stage_of(places, held as usize, e.fragment, e.transaction);
+    let s = held.stage_of(e.fragment, e.transaction);
     if !entry::takes(e.kind, s) {
-        return Outcome::Refused(Refusal::OutOfTurn);
+        return Err(Refusal::OutOfTurn);
     }
-    if held < Account::MOST_HELD {
-        return Outcome::Done;
+    if Account::MOST_HELD as usize <= held.count {
+        return Err(Refusal::Full);
     }
-    Outcome::Refused(Refusal::Full)
+    Ok(())
 }
 
 // Refusals 7 to 11, of an entry inside its account.
-fn judge_inside(streams: &[u8], places: &[u8], held: u16, e: Entry) -> Outcome
-    requires { (e.fragment * 8 + 8 ≤ length streams.now) × (length places.now ≡ 5120) × (held ≤ 256) }
-    ensures { result ≡ judge_inside (counters_of (drop (e.fragment * 8) streams.now)) (mine e.fragment (items held places.now)) held e }
+fn judge_inside(streams: &[u8], held: Section, e: Entry) -> Result<(), Refusal>
+    requires { e.fragment * 8 + 8 ≤ length streams.now }
+    ensures { result ≡ judge_inside (counters_of (drop (e.fragment * 8) streams.now)) (mine e.fragment (items held.entry.count held.entry.bytes.now)) held.entry.count e }
 {
     let c = lot::read_counters(streams, e.fragment as usize);
-    match entry::judge_sequence(e.sequence, c.next) {
-        Sequence::Seen => Outcome::Refused(Refusal::Seen),
-        Sequence::Gap => Outcome::Refused(Refusal::Gap),
-        Sequence::Due => judge_due(places, held, c.epoch, e),
-    }
+    entry::judge_sequence(e.sequence, c.next)?;
+    judge_due(held, c.epoch, e)
 }
 
 // Refusals 5 to 11, of a lot that has been looked at.
-fn judge_entry(lot: &[u8], account: Account, e: Entry) -> Outcome
+fn judge_entry(lot: &[u8], account: Account, e: Entry) -> Result<(), Refusal>
     requires { Looked lot.now account }
     ensures { EntryJudged lot.now e result }
 {
     if !entry::fits(e) {
-        return Outcome::Refused(Refusal::Unfit);
+        return Err(Refusal::Unfit);
     }
     if !entry::inside(e, account.fragments, account.keys) {
-        return Outcome::Refused(Refusal::OutsideAccount);
+        return Err(Refusal::OutsideAccount);
     }
-    judge_inside(lot::streams_of(lot), lot::places_of(lot), account.held, e)
+    let held = Section {
+        bytes: &lot[lot::PLACES],
+        count: account.held as usize,
+    };
+    judge_inside(&lot[lot::STREAMS], held, e)
 }
 
 // Refusals 4 to 11.
-pub fn judge_lot(lot: &[u8], account: Account, bytes: &[u8]) -> Outcome
+pub fn judge_lot(lot: &[u8], account: Account, bytes: &[u8]) -> Result<(), Refusal>
     requires { Looked lot.now account }
     ensures { Judged lot.now bytes.now result }
 {
     if bytes.len() != Entry::LENGTH {
-        return Outcome::Refused(Refusal::WrongLength);
+        return Err(Refusal::WrongLength);
     }
     judge_entry(lot, account, Entry::read(bytes))
 }
@@ -81,7 +81,7 @@ fn step_stream(lot: &mut [u8], i: usize, mark: bool) -> u32
     requires { (length lot.old ≡ SIZE) × (i < 8) × (mark ≡ true → (counters_of (drop (i * 8) (streams_of lot.old))).epoch ≤ LAST_MARK) }
     ensures { StreamStepped lot.old lot.new i mark result }
 {
-    let c = lot::read_counters(lot::streams_of(lot), i);
+    let c = lot::read_counters(&lot[lot::STREAMS], i);
     writes::set_counters(lot, i, stream::step_counters(c.next, c.epoch, mark));
     c.epoch
 }
@@ -91,7 +91,7 @@ fn hold_in(lot: &mut [u8], n: usize, bytes: &[u8], epoch: u32)
     requires { (length lot.old ≡ SIZE) × (n < 256) × (length bytes.now ≡ 16) }
     ensures { HeldIn lot.old lot.new n bytes.now epoch }
 {
-    places::hold_entry(&mut lot[lot::PLACES..lot::RECORDS], n, bytes, epoch);
+    places::hold_entry(&mut lot[lot::PLACES], n, bytes, epoch);
 }
 
 // The numbers of an account that holds one entry more.
@@ -100,11 +100,8 @@ fn one_more(account: Account) -> Account
     ensures { result ≡ one_more account }
 {
     Account {
-        number: account.number,
-        fragments: account.fragments,
-        keys: account.keys,
         held: account.held + 1,
-        closed: account.closed,
+        ..account
     }
 }
 
@@ -125,31 +122,13 @@ pub fn take_entry(lot: &mut [u8], account: Account, bytes: &[u8])
 
 // ---- delivering
 
-// Refusals 3 to 11, of a lot that has been looked at.
-fn deliver_held(lot: &mut [u8], account: Account, number: u32, bytes: &[u8]) -> Outcome
-    requires { Looked lot.old account }
-    ensures { Delivered lot.old lot.new number bytes.now result }
-{
-    if (account.number as u32) != number {
-        return Outcome::Refused(Refusal::NotThisAccount);
-    }
-    match judge_lot(lot, account, bytes) {
-        Outcome::Done => {
-            take_entry(lot, account, bytes);
-            Outcome::Done
-        }
-        Outcome::Refused(why) => Outcome::Refused(why),
-    }
-}
-
 // Refusals 2 to 11, then the write.
-pub fn deliver_lot(lot: &mut [u8], number: u32, bytes: &[u8]) -> Outcome
+pub fn deliver_lot(lot: &mut [u8], number: u32, bytes: &[u8]) -> Result<(), Refusal>
     requires { length lot.old ≡ SIZE }
     ensures { Delivered lot.old lot.new number bytes.now result }
 {
-    match lot::look_at(lot) {
-        Look::Damaged => Outcome::Refused(Refusal::Damaged),
-        Look::Free => Outcome::Refused(Refusal::NotThisAccount),
-        Look::Holds(account) => deliver_held(lot, account, number, bytes),
-    }
+    let account = lot::find(lot, number)?;
+    judge_lot(lot, account, bytes)?;
+    take_entry(lot, account, bytes);
+    Ok(())
 }

@@ -3,10 +3,11 @@
 #![tactic(auto)]
 
 ghost use Rattle.std.specs.Prelude.{◌≡◌, ◌≤◌, ◌++◌, length, drop};
-ghost use Rattle.model.specs.Decoding.{same};
 ghost use Rattle.trailer.specs.Trailer.{numbers_of, count_bytes, trailer_bytes, signed, image_length, trailer_fits};
 
 use lot::Account;
+
+// A trailer is lent as a slice of data, 24 bytes long: `&[u8; 24]` would come from `last_chunk`, with a `None` that can't be.
 
 // What an image ends with.
 const SIGNATURE: [u8; 4] = *b"EPB1";
@@ -14,82 +15,77 @@ const SIGNATURE: [u8; 4] = *b"EPB1";
 // The numbers in a trailer.
 #[derive(Clone, Copy)]
 pub struct Trailer {
-    pub number: u16,
-    pub fragments: u8,
-    pub keys: u16,
+    pub account: Account,
     pub records: u16,
-    pub held: u16,
-    pub closed: u32,
     pub length: u32,
 }
 
 impl Trailer {
     pub const LENGTH: usize = 24;
 
+    #[tactic(auto, unfolding(crate::specs::Trailer::numbers_of))]
     pub fn read(bytes: &[u8]) -> Trailer
         requires { length bytes.now ≡ 24 }
         ensures { result ≡ numbers_of bytes.now }
     {
         Trailer {
-            number: wire::get16(bytes, 0),
-            fragments: bytes[2],
-            keys: wire::get16(bytes, 4),
-            records: wire::get16(bytes, 6),
-            held: wire::get16(bytes, 8),
-            closed: wire::get32(bytes, 12),
-            length: wire::get32(bytes, 16),
+            account: Account {
+                number: wire::get(bytes, 0),
+                fragments: bytes[2],
+                keys: wire::get(bytes, 4),
+                held: wire::get(bytes, 8),
+                closed: wire::get(bytes, 12),
+            },
+            records: wire::get(bytes, 6),
+            length: wire::get(bytes, 16),
         }
     }
 }
 
-// Whether two strings of four bytes are the same.
-fn same4(a: &[u8], b: &[u8]) -> bool
-    requires { (length a.now ≡ 4) × (length b.now ≡ 4) }
-    ensures { result ≡ same a.now b.now }
-{
-    (a[0] == b[0]) & (a[1] == b[1]) & (a[2] == b[2]) & (a[3] == b[3])
-}
-
 // Whether a trailer ends with the signature.
+#[tactic(auto, using(crate::proofs::Trailers::ends_signed))]
 pub fn is_signed(bytes: &[u8]) -> bool
     requires { length bytes.now ≡ 24 }
     ensures { result ≡ signed bytes.now }
 {
-    same4(&bytes[20..24], &SIGNATURE)
+    bytes.ends_with(&SIGNATURE)
 }
 
-// The length of an image with so many streams, records and held entries.
-pub fn image_length(fragments: u8, records: u16, held: u16) -> u32
-    ensures { result ≡ image_length fragments records held }
+// The length of the image of an account with so many records.
+pub fn image_length(account: Account, records: u16) -> u32
+    ensures { result ≡ image_length account.fragments records account.held }
 {
-    (fragments as u32) * 8 + (records as u32) * 8 + (held as u32) * 20 + 24
+    (account.fragments as u32) * 8 + (records as u32) * 8 + (account.held as u32) * 20 + 24
 }
 
 // Whether a signed trailer fits by itself, at the end of n bytes of data.
+#[tactic(auto, unfolding(crate::specs::Trailer::trailer_fits, model::specs::Lists::every))]
 pub fn trailer_fits(bytes: &[u8], n: usize) -> bool
     requires { length bytes.now ≡ 24 }
     ensures { result ≡ trailer_fits n bytes.now }
 {
     let t = Trailer::read(bytes);
+    let a = t.account;
     (bytes[3] == 0)
-        & (wire::get16(bytes, 10) == 0)
-        & lot::account_fits(t.number as u32, t.fragments as u32, t.keys as u32)
-        & (t.held <= Account::MOST_HELD)
-        & (t.length == image_length(t.fragments, t.records, t.held))
+        & (wire::get::<u16>(bytes, 10) == 0)
+        & lot::account_fits(a.number as u32, a.fragments as u32, a.keys as u32)
+        & (a.held <= Account::MOST_HELD)
+        & (t.length == image_length(a, t.records))
         & ((t.length as usize) <= n)
 }
 
 // Writes the first 12 bytes of a trailer.
+#[tactic(auto, using(crate::proofs::Trailers::counts_written))]
 fn write_counts(bytes: &mut [u8], t: Trailer)
     requires { length bytes.old ≡ 24 }
     ensures { bytes.new ≡ count_bytes t ++ drop 12 bytes.old }
 {
-    wire::put16(bytes, 0, t.number);
-    wire::put16(bytes, 2, t.fragments as u16);
-    wire::put16(bytes, 4, t.keys);
-    wire::put16(bytes, 6, t.records);
-    wire::put16(bytes, 8, t.held);
-    wire::put16(bytes, 10, 0);
+    wire::put(bytes, 0, t.account.number);
+    wire::put(bytes, 2, t.account.fragments as u16);
+    wire::put(bytes, 4, t.account.keys);
+    wire::put(bytes, 6, t.records);
+    wire::put(bytes, 8, t.account.held);
+    wire::put(bytes, 10, 0u16);
 }
 
 pub fn write_trailer(bytes: &mut [u8], t: Trailer)
@@ -97,7 +93,7 @@ pub fn write_trailer(bytes: &mut [u8], t: Trailer)
     ensures { bytes.new ≡ trailer_bytes t }
 {
     write_counts(bytes, t);
-    wire::put32(bytes, 12, t.closed);
-    wire::put32(bytes, 16, t.length);
+    wire::put(bytes, 12, t.account.closed);
+    wire::put(bytes, 16, t.length);
     wire::copy(&SIGNATURE, &mut bytes[20..24]);
 }

@@ -10,13 +10,14 @@ use borrow.Author.Tests.{eq-eqb, ne_eqb, leb-true, leb-false, le-leb, lt-leb}
 use lib.Dec.{leb, eqb}
 use lib.ListN.{length, get_or, set, replicate, get_or-replicate, length-set}
 use lib.Seq.{get_or-set_same, get_or-set_other}
-use Rattle.std.specs.Prelude.{if◌then◌else◌}
+use Rattle.std.specs.Prelude.{Option, Some, None, if◌then◌else◌}
 use Rattle.model.proofs.Tests.{no_way, and_l, and_r}
 use Rattle.model.specs.Section.{item_at}
-use Rattle.lookback.specs.Last.{last_with, is_of, last_before, Lasts}
+use Rattle.lookback.specs.Last.{one_past, last_with, is_of, last_before, Lasts}
 use Rattle.lookback.proofs.Chains.{last_le, last_hit, last_miss, last_passes}
 use Rattle.verdicts.specs.Orderly.{Orderly}
-use Rattle.verdicts.specs.Verdicts.{verdict_at, number_of, number_at, looked_at, decider_at, Deciders, decider_of, Known, decides, decided_by}
+use Rattle.verdicts.specs.declared.Verdict.{Verdict}
+use Rattle.verdicts.specs.Verdicts.{verdict_at, verdict_of, answer_at, looked_at, decider_at, Deciders, decider_of, Known, decides, decided_by}
 use Rattle.verdicts.proofs.ByLast.{own, verdict_by}
 
 pub last_reaches : (p : ℕ → Bool) (n a : ℕ) → a < n → p a ≡ true → suc a ≤ last_with p n
@@ -32,6 +33,27 @@ last_reaches p (suc n) a l e = go (p n) refl (ℕ_discrete a n) (λ u. last_reac
 -- x if it is above j
 abbrev above : ℕ → ℕ → ℕ
 above j x = if leb x j then 0 else x
+
+pub no_place : (o : Option ℕ) → ((i : ℕ) → o ≡ Some i → ⊥) → one_past o ≡ 0
+no_place None f = refl
+no_place (Some i) f = absurd (f i refl)
+
+-- what is found for a place, handed to the one before it of its transaction
+abbrev pub handed : Option ℕ → Option ℕ → List (Option ℕ) → List (Option ℕ)
+handed None x d = d
+handed (Some b) x d = set d b x
+
+handed_other : (before x : Option ℕ) (d : List (Option ℕ)) (i : ℕ) → (suc i ≡ one_past before → ⊥) → get_or (handed before x d) i None ≡ get_or d i None
+handed_other None x d i q = refl
+handed_other (Some b) x d i q = get_or-set_other d b i x None (λ z. q (ap suc z))
+
+handed_same : (before x : Option ℕ) (d : List (Option ℕ)) (i : ℕ) → i < length d → suc i ≡ one_past before → get_or (handed before x d) i None ≡ x
+handed_same None x d i l q = absurd (omega arith)
+handed_same (Some b) x d i l q = let z : i ≡ b = omega arith in rw z (get_or-set_same d b x None (omega arith))
+
+handed_length : (before x : Option ℕ) (d : List (Option ℕ)) → length (handed before x d) ≡ length d
+handed_length None x d = refl
+handed_length (Some b) x d = length-set d b x
 
 module _ (h : List ℕ) (n e : ℕ) where
   abbrev own_of : ℕ → ℕ → Bool
@@ -52,29 +74,29 @@ module _ (h : List ℕ) (n e : ℕ) where
   decider_reaches i l w = last_reaches (looked_at h e (item_at h i).stream (item_at h i).entry.transaction) n i l (rw (own_self i, w))
 
   -- places from j on have their answer; below j, the last of each transaction has what was found from j on
-  pub record Found (decider : List ℕ) (j : ℕ) : Type 0 where
-    pub size : length decider ≡ 257
-    pub done : (i : ℕ) → i < n → j ≤ i → get_or decider (suc i) 0 ≡ above i (decider_at h n e i)
-    pub heads : (i : ℕ) → i < j → last_with (own_of i) j ≡ suc i → get_or decider (suc i) 0 ≡ above j (decider_at h n e i)
+  pub record Found (decider : List (Option ℕ)) (j : ℕ) : Type 0 where
+    pub size : length decider ≡ 256
+    pub done : (i : ℕ) → i < n → j ≤ i → one_past (get_or decider i None) ≡ above i (decider_at h n e i)
+    pub heads : (i : ℕ) → i < j → last_with (own_of i) j ≡ suc i → one_past (get_or decider i None) ≡ above j (decider_at h n e i)
 
-  pub found_none : n ≤ 256 → Found (replicate 257 0) n
+  pub found_none : n ≤ 256 → Found (replicate 256 None) n
   found_none s = record {
     size = refl;
     done = λ i l u. absurd (omega arith);
-    heads = λ i l z. get_or-replicate 257 (suc i) 0 0 (omega arith) ∙ rw (le-leb (decider_at h n e i) n (last_le _ n));
+    heads = λ i l z. ap one_past (get_or-replicate 256 i None None (omega arith)) ∙ rw (le-leb (decider_at h n e i) n (last_le _ n));
   }
 
-  pub found_all : (decider : List ℕ) → Found decider 0 → Deciders decider h n e
+  pub found_all : (decider : List (Option ℕ)) → Found decider 0 → Deciders decider h n e
   unfolding Deciders
   found_all decider f i l w = let r = decider_reaches i l w in f.done i l (omega arith) ∙ rw (lt-leb (decider_at h n e i) i (omega arith))
 
-  module _ (decider : List ℕ) (a : ℕ) (room : n ≤ 256) (l : a < n) (f : Found decider (suc a)) where
+  module _ (decider : List (Option ℕ)) (a : ℕ) (room : n ≤ 256) (l : a < n) (f : Found decider (suc a)) where
     -- what is found for place a
-    decider_is : decider_of h e (get_or decider (suc a) 0) (suc a) ≡ above a (decider_at h n e a)
+    decider_is : decider_of h e (one_past (get_or decider a None)) (suc a) ≡ above a (decider_at h n e a)
     unfolding decider_of
     decider_is =
         let z : suc a - 1 ≡ a = omega arith in
-        rw (z, f.heads a (omega arith) (last_hit (own_of a) (suc a) (omega arith) (rw z (own_self a))))
+        rw (z, f.heads a (omega arith) (last_hit (own_of a) a (own_self a)))
         (go (leb (decider_at h n e a) (suc a)) refl (leb (item_at h a).entry.epoch e) refl)
       where
         go : (b : Bool) → leb (decider_at h n e a) (suc a) ≡ b → (w : Bool) → leb (item_at h a).entry.epoch e ≡ w
@@ -90,38 +112,36 @@ module _ (h : List ℕ) (n e : ℕ) where
             let q = leb-false (decider_at h n e a) (suc a) eb in
             rw (ne_eqb (decider_at h n e a) 0 (λ z. omega arith), lt-leb (decider_at h n e a) a (omega arith))
 
-    module _ (before x : ℕ) (eb : before ≡ last_before h a) (ex : x ≡ above a (decider_at h n e a)) where
-      abbrev next : List ℕ
-      next = set (set decider (suc a) x) before x
+    module _ (before x : Option ℕ) (eb : one_past before ≡ last_before h a) (ex : one_past x ≡ above a (decider_at h n e a)) where
+      abbrev next : List (Option ℕ)
+      next = handed before x (set decider a x)
 
-      low : before ≤ a
+      low : one_past before ≤ a
       low = omega (arith, last_le (own_of a) a)
 
-      unchanged : (i : ℕ) → (i ≡ suc a → ⊥) → (i ≡ before → ⊥) → get_or next i 0 ≡ get_or decider i 0
-      unchanged i p q = get_or-set_other (set decider (suc a) x) before i x 0 q ∙ get_or-set_other decider (suc a) i x 0 p
+      unchanged : (i : ℕ) → (i ≡ a → ⊥) → (suc i ≡ one_past before → ⊥) → get_or next i None ≡ get_or decider i None
+      unchanged i p q = handed_other before x (set decider a x) i q ∙ get_or-set_other decider a i x None p
 
-      found_here : (i : ℕ) → i < n → a ≤ i → Dec (i ≡ a) → get_or next (suc i) 0 ≡ above i (decider_at h n e i)
+      found_here : (i : ℕ) → i < n → a ≤ i → Dec (i ≡ a) → one_past (get_or next i None) ≡ above i (decider_at h n e i)
       found_here i u v (yes z) =
           let s = f.size in
           let k = low in
-          rw z (get_or-set_other (set decider (suc a) x) before (suc a) x 0 (λ y. omega arith) ∙ get_or-set_same decider (suc a) x 0 (omega arith) ∙ ex)
-      found_here i u v (no z) = let k = low in unchanged (suc i) (λ y. z (omega arith)) (λ y. omega arith) ∙ f.done i u (omega arith)
+          rw z (ap one_past (handed_other before x (set decider a x) a (λ y. omega arith) ∙ get_or-set_same decider a x None (omega arith)) ∙ ex)
+      found_here i u v (no z) = let k = low in ap one_past (unchanged i z (λ y. omega arith)) ∙ f.done i u (omega arith)
 
-      found_head : (i : ℕ) → i < a → last_with (own_of i) a ≡ suc i → (b : Bool) → own_of i a ≡ b → get_or next (suc i) 0 ≡ above a (decider_at h n e i)
+      found_head : (i : ℕ) → i < a → last_with (own_of i) a ≡ suc i → (b : Bool) → own_of i a ≡ b → one_past (get_or next i None) ≡ above a (decider_at h n e i)
       found_head i u z true q =
           let s = f.size in
-          let k = low in
           let r = own h (item_at h i).stream (item_at h i).entry.transaction a q in
-          let w : before ≡ suc i = eb ∙ rw (r.0, r.1) z in
+          let w : suc i ≡ one_past before = sym (eb ∙ rw (r.0, r.1) z) in
           let d : decider_at h n e a ≡ decider_at h n e i = rw (r.0, r.1) in
-          rw (← w) (get_or-set_same (set decider (suc a) x) before x 0 (simp length-set (omega arith)) ∙ ex ∙ rw d)
+          ap one_past (handed_same before x (set decider a x) i (simp length-set (omega arith)) w) ∙ ex ∙ rw d
       found_head i u z false q =
-          let k : suc a - 1 ≡ a = omega arith in
-          let miss : last_with (own_of i) (suc a) ≡ suc i = last_miss (own_of i) (suc a) (omega arith) (rw k q) ∙ rw k z in
-          unchanged (suc i) (λ y. omega arith) away ∙ f.heads i (omega arith) miss
+          let miss : last_with (own_of i) (suc a) ≡ suc i = last_miss (own_of i) a q ∙ z in
+          ap one_past (unchanged i (λ y. omega arith) away) ∙ f.heads i (omega arith) miss
           ∙ above_step (decider_at h n e i) (λ y. no_way (sym q ∙ (looked_own i a y).1))
         where
-          away : suc i ≡ before → ⊥
+          away : suc i ≡ one_past before → ⊥
           away y =
               let r = own h (item_at h a).stream (item_at h a).entry.transaction i (last_passes (own_of a) a i (sym eb ∙ sym y)).1 in
               no_way (sym q ∙ rw (r.0, r.1) (own_self a))
@@ -133,62 +153,60 @@ module _ (h : List ℕ) (n e : ℕ) where
               go true y = rw (le-leb x (suc a) (omega (arith, leb-true x a y)))
               go false y = rw (lt-leb x (suc a) (omega (arith, leb-false x a y)))
 
-    found_more : (before x : ℕ) → before ≡ last_before h a → x ≡ decider_of h e (get_or decider (suc a) 0) (suc a) → Found (set (set decider (suc a) x) before x) a
+    found_more : (before x : Option ℕ) → one_past before ≡ last_before h a → one_past x ≡ decider_of h e (one_past (get_or decider a None)) (suc a) → Found (handed before x (set decider a x)) a
     found_more before x eb ex = record {
-      size = simp length-set f.size;
+      size = handed_length before x (set decider a x) ∙ simp length-set f.size;
       done = λ i u v. found_here before x eb (ex ∙ decider_is) i u v (ℕ_discrete i a);
       heads = λ i u z. found_head before x eb (ex ∙ decider_is) i u z (own_of i a) refl;
     }
 
   -- a turn, at the place before m
-  pub found_turn : (decider : List ℕ) (m before x : ℕ) → n ≤ 256 → 0 < m → m ≤ n → Found decider m → before ≡ last_before h (m - 1) → x ≡ decider_of h e (get_or decider m 0) m → Found (set (set decider m x) before x) (m - 1)
+  pub found_turn : (decider : List (Option ℕ)) (m : ℕ) (before x : Option ℕ) → n ≤ 256 → 0 < m → m ≤ n → Found decider m → one_past before ≡ last_before h (m - 1) → one_past x ≡ decider_of h e (one_past (get_or decider (m - 1) None)) (m - 1 + 1) → Found (handed before x (set decider (m - 1) x)) (m - 1)
   found_turn decider zero before x room l u f eb ex = absurd (omega arith)
   found_turn decider (suc a) before x room l u f eb ex =
       let z : suc a - 1 ≡ a = omega arith in
-      rw z (found_more decider a room (omega arith) f before x (rw z at eb) ex)
+      rw z (found_more decider a room (omega arith) f before x (rw z at eb) (rw (z, add-one a) at ex))
 
   -- ---- the verdict of place i
 
-  pub number_LATER : (i : ℕ) → e < (item_at h i).entry.epoch → 4 ≡ number_at h n e i
-  unfolding number_at
-  number_LATER i l = rw (lt-leb (item_at h i).entry.epoch e l)
+  pub answer_later : (i : ℕ) → e < (item_at h i).entry.epoch → None ≡ answer_at h n e i
+  unfolding answer_at
+  answer_later i l = rw (lt-leb (item_at h i).entry.epoch e l)
 
   module _ (i : ℕ) (l : (item_at h i).entry.epoch ≤ e) where
-    pub number_own : Orderly h n → decider_at h n e i ≡ suc i → number_of (decided_by (decides h n e) h i) ≡ number_at h n e i
-    unfolding number_at
-    number_own o z = rw (le-leb (item_at h i).entry.epoch e l, verdict_by h n o e i i z)
+    pub own_answer : Orderly h n → decider_at h n e i ≡ suc i → Some (verdict_of (decided_by (decides h n e) h i)) ≡ answer_at h n e i
+    unfolding answer_at
+    own_answer o z = rw (le-leb (item_at h i).entry.epoch e l, verdict_by h n o e i i z)
 
-    pub number_later : (m : ℕ) → decider_at h n e i ≡ m → 0 < m → number_at h n e (m - 1) ≡ number_at h n e i
-    unfolding number_at verdict_at
-    number_later zero z u = absurd (omega arith)
-    number_later (suc j) z u =
-        let y : suc j - 1 ≡ j = omega arith in
+    pub later_answer : (j : ℕ) → decider_at h n e i ≡ suc j → answer_at h n e j ≡ answer_at h n e i
+    unfolding answer_at verdict_at
+    later_answer j z =
         let r = looked_own i j z in
         let w = own h (item_at h i).stream (item_at h i).entry.transaction j r.1 in
-        rw (y, le-leb (item_at h i).entry.epoch e l, r.2, w.0, w.1)
+        rw (le-leb (item_at h i).entry.epoch e l, r.2, w.0, w.1)
 
-pub lasts_low : (last h : List ℕ) (n i : ℕ) → Lasts last h n → i < n → get_or last i 0 ≤ i
+-- what `answer_at` finds in the table for a place that is looked at
+pub known_decider : {h : List ℕ} {decider : List (Option ℕ)} {answers : List (Option Verdict)} {n e i : ℕ} → Known h decider answers n e i → (item_at h i).entry.epoch ≤ e → (o : Option ℕ) → get_or decider i None ≡ o
+    → (decider_at h n e i ≡ one_past o) × (i < one_past o) × (one_past o ≤ n)
+unfolding Deciders
+known_decider {h} {decider = decider} {n = n} {e = e} {i = i} k l o q =
+    let w = le-leb (item_at h i).entry.epoch e l in
+    let z : decider_at h n e i ≡ one_past o = sym (k.deciders i k.within w) ∙ ap one_past q in
+    (z, omega (arith, decider_reaches h n e i k.within w), omega (arith, last_le (looked_at h e (item_at h i).stream (item_at h i).entry.transaction) n))
+
+pub lasts_low : (last : List (Option ℕ)) (h : List ℕ) (n i : ℕ) → Lasts last h n → i < n → one_past (get_or last i None) ≤ i
 unfolding Lasts
 lasts_low last h n i l u = omega (arith, l i u, last_le (own_of h n n i) i)
 
--- what `number_of` finds in the table for a place that is looked at
-pub known_decider : {h last decider head next numbers : List ℕ} {n e i : ℕ} → Known h last decider head next numbers n e i → (m : ℕ) → m ≡ get_or decider (i + 1) 0 → (item_at h i).entry.epoch ≤ e
-    → (decider_at h n e i ≡ m) × (suc i ≤ m) × (m ≤ n)
-unfolding Deciders
-known_decider {h} {decider = decider} {n = n} {e = e} {i = i} k m q l =
-    let w = le-leb (item_at h i).entry.epoch e l in
-    let z : decider_at h n e i ≡ m = sym (q ∙ rw (add-one i) (k.deciders i k.within w)) in
-    (z, omega (arith, decider_reaches h n e i k.within w), omega (arith, last_le (looked_at h e (item_at h i).stream (item_at h i).entry.transaction) n))
-
 -- ---- all verdicts
 
-abbrev pub KnownFrom : List ℕ → List ℕ → ℕ → ℕ → ℕ → Type 0
-KnownFrom numbers h n e m = (j : ℕ) → m ≤ j → j < n → get_or numbers j 0 ≡ number_at h n e j
+abbrev pub KnownFrom : List (Option Verdict) → List ℕ → ℕ → ℕ → ℕ → Type 0
+KnownFrom answers h n e m = (j : ℕ) → m ≤ j → j < n → get_or answers j None ≡ answer_at h n e j
 
 -- a turn, at the place before m
-pub known_turn : (numbers h : List ℕ) (n e m x : ℕ) → length numbers ≡ 256 → n ≤ 256 → 0 < m → m ≤ n → KnownFrom numbers h n e m → x ≡ number_at h n e (m - 1) → KnownFrom (set numbers (m - 1) x) h n e (m - 1)
-known_turn numbers h n e m x s r l t k q j u v = go (ℕ_discrete j (m - 1))
+pub known_turn : (answers : List (Option Verdict)) (h : List ℕ) (n e m : ℕ) (x : Option Verdict) → length answers ≡ 256 → 0 < m → m ≤ 256 → KnownFrom answers h n e m → x ≡ answer_at h n e (m - 1) → KnownFrom (set answers (m - 1) x) h n e (m - 1)
+known_turn answers h n e m x s l t k q j u v = go (ℕ_discrete j (m - 1))
   where
-    go : Dec (j ≡ m - 1) → get_or (set numbers (m - 1) x) j 0 ≡ number_at h n e j
-    go (yes z) = rw z (get_or-set_same numbers (m - 1) x 0 (omega arith) ∙ q)
-    go (no z) = get_or-set_other numbers (m - 1) j x 0 z ∙ k j (omega arith) v
+    go : Dec (j ≡ m - 1) → get_or (set answers (m - 1) x) j None ≡ answer_at h n e j
+    go (yes z) = rw z (get_or-set_same answers (m - 1) x None (omega arith) ∙ q)
+    go (no z) = get_or-set_other answers (m - 1) j x None z ∙ k j (omega arith) v

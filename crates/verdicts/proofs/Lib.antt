@@ -1,4 +1,3 @@
 pub mod ByLast
-pub mod Deciding
 pub mod Backwards
 pub mod FromSection

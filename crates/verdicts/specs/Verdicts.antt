@@ -1,37 +1,36 @@
 -- The verdict on the transaction of each place of a held section, and the place that decides it: the last one looked at.
-use Rattle.std.specs.Prelude.{ℕ, zero, suc, ◌*◌, ◌-◌, ◌<◌, ◌≤◌, ◌≡◌, Bool, true, false, not, ◌&&◌, List, leb, eqb, length, get_or, if◌then◌else◌}
+use Rattle.std.specs.Prelude.{Option, Some, None, ℕ, zero, suc, ◌-◌, ◌<◌, ◌≡◌, Bool, true, false, not, ◌&&◌, List, leb, eqb, get_or, if◌then◌else◌}
 use Rattle.model.specs.Entry.{P, CC, CP, A}
 use Rattle.model.specs.Account.{Held, coordinator}
-use Rattle.model.specs.Closing.{upto, Verdict, free, install, flag, stay, verdict, committed}
+use Rattle.model.specs.Closing.{upto, Verdict as ModelVerdict, free, install, flag, stay, verdict, committed}
 use Rattle.model.specs.Decoding.{mine}
 use Rattle.model.specs.Section.{item_at, items}
-use Rattle.lookback.specs.Last.{last_with, is_of, last_before, Lasts, Indexed}
-use Rattle.verdicts.specs.Orderly.{Orderly}
+use Rattle.lookback.specs.Last.{one_past, last_with, is_of, last_before}
+use Rattle.verdicts.specs.declared.Verdict.{Verdict}
+use Rattle.verdicts.specs.declared.Verdict.TheVariants.{Free, Install, Flag, Stay}
 
 -- ---- the verdict on the transaction of place i, by the model; n places, closing epoch e
 
 abbrev pub held_in : List ℕ → ℕ → ℕ → List Held
 held_in h n s = mine s (items n h)
 
-unfoldable pub verdict_at : List ℕ → ℕ → ℕ → ℕ → Verdict
+unfoldable pub verdict_at : List ℕ → ℕ → ℕ → ℕ → ModelVerdict
 verdict_at h n e i = verdict (committed e (held_in h n)) (upto e (held_in h n (item_at h i).stream)) (item_at h i).entry.transaction
 
--- its number; a place of a later epoch is not looked at
-abbrev pub number_of : Verdict → ℕ
-number_of free = 0
-number_of install = 1
-number_of flag = 2
-number_of stay = 3
+-- the same in the code's type
+abbrev pub verdict_of : ModelVerdict → Verdict
+verdict_of free = Free
+verdict_of install = Install
+verdict_of flag = Flag
+verdict_of stay = Stay
 
-abbrev pub LATER : ℕ
-LATER = 4
+-- none of a place of a later epoch, which is not looked at
+unfoldable pub answer_at : List ℕ → ℕ → ℕ → ℕ → Option Verdict
+answer_at h n e i = if leb (item_at h i).entry.epoch e then Some (verdict_of (verdict_at h n e i)) else None
 
-unfoldable pub number_at : List ℕ → ℕ → ℕ → ℕ → ℕ
-number_at h n e i = if leb (item_at h i).entry.epoch e then number_of (verdict_at h n e i) else LATER
-
--- `numbers` holds those of the n places
-unfoldable pub Verdicts : List ℕ → List ℕ → ℕ → ℕ → Type 0
-Verdicts numbers h n e = (i : ℕ) → i < n → get_or numbers i 0 ≡ number_at h n e i
+-- `answers` holds those of the n places
+unfoldable pub Verdicts : List (Option Verdict) → List ℕ → ℕ → ℕ → Type 0
+Verdicts answers h n e = (i : ℕ) → i < n → get_or answers i None ≡ answer_at h n e i
 
 -- ---- the place that decides
 
@@ -43,24 +42,19 @@ looked_at h e s t i = is_of h s t i && leb (item_at h i).entry.epoch e
 abbrev pub decider_at : List ℕ → ℕ → ℕ → ℕ → ℕ
 decider_at h n e i = last_with (looked_at h e (item_at h i).stream (item_at h i).entry.transaction) n
 
--- `decider` holds it for each of the n places that is looked at, at one more than the place
-unfoldable pub Deciders : List ℕ → List ℕ → ℕ → ℕ → Type 0
-Deciders decider h n e = (i : ℕ) → i < n → leb (item_at h i).entry.epoch e ≡ true → get_or decider (suc i) 0 ≡ decider_at h n e i
+-- `decider` holds it for each of the n places that is looked at
+unfoldable pub Deciders : List (Option ℕ) → List ℕ → ℕ → ℕ → Type 0
+Deciders decider h n e = (i : ℕ) → i < n → leb (item_at h i).entry.epoch e ≡ true → one_past (get_or decider i None) ≡ decider_at h n e i
 
 -- going back over the places, at the one before m: what was found after it, or itself if it is looked at
 unfoldable pub decider_of : List ℕ → ℕ → ℕ → ℕ → ℕ
 decider_of h e found m = if eqb found 0 then (if leb (item_at h (m - 1)).entry.epoch e then m else 0) else found
 
 -- what the verdict of place i asks for: those after it are known
-pub record Known (h last decider head next numbers : List ℕ) (n e i : ℕ) : Type 0 where
+pub record Known (h : List ℕ) (decider : List (Option ℕ)) (answers : List (Option Verdict)) (n e i : ℕ) : Type 0 where
   pub within : i < n
-  pub most : n ≤ 256
-  pub room : n * 20 ≤ length h
-  pub orderly : Orderly h n
-  pub lasts : Lasts last h n
   pub deciders : Deciders decider h n e
-  pub index : Indexed h head next n
-  pub known : (j : ℕ) → i < j → j < n → get_or numbers j 0 ≡ number_at h n e j
+  pub known : (j : ℕ) → i < j → j < n → get_or answers j None ≡ answer_at h n e j
 
 -- stream s has CC(t), by its last place
 unfoldable pub commits_at : List ℕ → ℕ → ℕ → Bool
@@ -80,7 +74,7 @@ unfoldable pub to_flag : (ℕ → ℕ → Bool) → Held → Bool
 to_flag d x = eqb x.kind P && not x.flagged && d (coordinator x) x.transaction
 
 -- the verdict that place i decides
-unfoldable pub decided_by : (ℕ → ℕ → Bool) → List ℕ → ℕ → Verdict
+unfoldable pub decided_by : (ℕ → ℕ → Bool) → List ℕ → ℕ → ModelVerdict
 decided_by d h i =
     let x = (item_at h i).entry in
     if eqb x.kind A then free

@@ -1,212 +1,166 @@
 // What becomes of each transaction in a held section when an epoch is closed, place by place.
-// It stands on `model`, whose verdicts these are, on `lookback` and on `held`.
+// It stands on `model`, whose verdicts these are, on `lookback`, and on `held` for the order of the places.
 #![tactic(auto)]
 
-ghost use Rattle.std.specs.Prelude.{◌≡◌, ◌+◌, ◌*◌, ◌≤◌, ◌<◌, length};
+ghost use Rattle.std.specs.Prelude.{◌≡◌, ◌+◌, ◌≤◌, ◌<◌};
 ghost use Rattle.model.specs.Section.{item_at};
-ghost use Rattle.lookback.specs.Last.{last_before, Lasts, Indexed};
+ghost use Rattle.lookback.specs.Last.{one_past, Lasts, Lasts-prop};
 ghost use Rattle.verdicts.specs.Orderly.{Orderly};
-ghost use Rattle.verdicts.specs.Verdicts.{number_of, number_at, Verdicts, Deciders, decider_of, Known, commits_at, decides, flagged_at, to_flag, decided_by};
 
+use lookback::{Index, Section};
 use model::Entry;
 
-// The verdicts, as numbers: a transaction's entries are freed, installed and freed, installed with its P flagged, or stay.
-// A place of a later epoch is not looked at.
-pub const FREE: u8 = 0;
-
-pub const INSTALL: u8 = 1;
-
-pub const FLAG: u8 = 2;
-
-pub const STAY: u8 = 3;
-
-pub const LATER: u8 = 4;
-
-// ---- what the last place of a transaction decides
-
-// The entry at an answer of looking back is flagged.
-fn flagged_at(held: &[u8], last: u16) -> bool
-    requires { last * 20 ≤ length held.now }
-    ensures { result ≡ flagged_at held.now last }
-{
-    if last == 0 {
-        return false;
-    }
-    let i = last - 1;
-    held::flagged_at(held, i as usize)
+// A transaction's entries are freed, installed and freed, installed with its P flagged, or stay.
+#[derive(Clone, Copy, PartialEq, Eq, Debug)]
+pub enum Verdict {
+    Free,
+    Install,
+    Flag,
+    Stay,
 }
 
-// The entry at an answer of looking back is a CC of an epoch up to this one.
-fn commits_at(held: &[u8], epoch: u32, last: u16) -> bool
-    requires { last * 20 ≤ length held.now }
-    ensures { result ≡ commits_at held.now epoch last }
-{
-    if last == 0 {
-        return false;
-    }
-    let i = (last - 1) as usize;
-    (lookback::kind_at(held, i) == Entry::CC) & (held::epoch_at(held, i) <= epoch)
-}
-
-// A stream has the transaction's CC, in an epoch up to this one.
-fn decides(
-    held: &[u8],
-    head: &[u16; 256],
-    next: &[u16; 256],
-    n: usize,
+// A held section as an epoch is closed: its places are all chained, and `last` has the last one before each of its transaction.
+#[derive(Drop)]
+struct Closing<'a> {
+    index: Index<'a>,
+    last: &'a [Option<u8>; 256],
     epoch: u32,
-    fragment: u8,
-    transaction: u32,
-) -> bool
-    requires { (n ≤ 256) × (n * 20 ≤ length held.now) × Indexed held.now head.now next.now n }
-    ensures { result ≡ decides held.now n epoch fragment transaction }
+    ghost chained: { index.chained ≡ index.held.count },
+    ghost orderly: { Orderly index.held.bytes.now index.held.count },
+    ghost lasts: { Lasts last.now index.held.bytes.now index.held.count } by { Lasts-prop last.now index.held.bytes.now index.held.count },
+}
+
+impl<'a> Closing<'a> {
+    ghost use Rattle.verdicts.specs.Verdicts.{verdict_of, answer_at, Deciders, decider_of, Known, commits_at, decides, flagged_at, to_flag, decided_by};
+
+    // ---- what the last place of a transaction decides
+
+    // The entry at an answer of looking back is flagged.
+    #[tactic(auto, unfolding(crate::specs::Verdicts::flagged_at))]
+    fn flagged_at(&self, last: Option<u8>) -> bool
+        requires { one_past last ≤ self.now.index.held.count }
+        ensures { result ≡ flagged_at self.now.index.held.bytes.now (one_past last) }
+    {
+        // `is_some_and` was tried here and below: the proof did not close.
+        match last {
+            Some(i) => self.index.held.flagged(usize::from(i)),
+            None => false,
+        }
+    }
+
+    // The entry at an answer of looking back is a CC of an epoch up to this one.
+    #[tactic(auto, unfolding(crate::specs::Verdicts::commits_at))]
+    fn commits_at(&self, last: Option<u8>) -> bool
+        requires { one_past last ≤ self.now.index.held.count }
+        ensures { result ≡ commits_at self.now.index.held.bytes.now self.now.epoch (one_past last) }
+    {
+        let held = self.index.held;
+        match last.map(usize::from) {
+            Some(i) => held.kind(i) == Entry::CC && held.epoch(i) <= self.epoch,
+            None => false,
+        }
+    }
+
+    // A stream has the transaction's CC, in an epoch up to this one.
+    fn decides(&self, fragment: u8, transaction: u32) -> bool
+        ensures { result ≡ decides self.now.index.held.bytes.now self.now.index.held.count self.now.epoch fragment transaction }
+    {
+        self.commits_at(self.index.last_of(fragment, transaction))
+    }
+
+    // Place i is a P that is to be flagged: it is not flagged yet, and its coordinator's stream has the CC.
+    #[tactic(auto, unfolding(crate::specs::Verdicts::to_flag))]
+    fn to_flag(&self, i: usize) -> bool
+        requires { i < self.now.index.held.count }
+        ensures { result ≡ to_flag (decides self.now.index.held.bytes.now self.now.index.held.count self.now.epoch) (item_at self.now.index.held.bytes.now i).entry }
+    {
+        let held = self.index.held;
+        held.kind(i) == Entry::P
+            && !held.flagged(i)
+            && self.decides(held.argument(i) as u8, held.transaction(i))
+    }
+
+    // The verdict that place i decides.
+    #[tactic(auto, unfolding(crate::specs::Verdicts::decided_by))]
+    fn decided_by(&self, i: usize) -> Verdict
+        requires { i < self.now.index.held.count }
+        ensures { result ≡ verdict_of (decided_by (decides self.now.index.held.bytes.now self.now.index.held.count self.now.epoch) self.now.index.held.bytes.now i) }
+    {
+        match self.index.held.kind(i) {
+            Entry::A => Verdict::Free,
+            Entry::CC => Verdict::Install,
+            Entry::CP if self.flagged_at(self.last[i]) => Verdict::Free,
+            Entry::CP => Verdict::Install,
+            _ if self.to_flag(i) => Verdict::Flag,
+            _ => Verdict::Stay,
+        }
+    }
+
+    // ---- the place that decides
+
+    // Going back over the places, at place i: what was found for it after it, or itself if it is looked at.
+    #[tactic(auto, unfolding(crate::specs::Verdicts::decider_of))]
+    fn decider_of(&self, found: Option<u8>, i: usize) -> Option<u8>
+        requires { i < self.now.index.held.count }
+        ensures { one_past result ≡ decider_of self.now.index.held.bytes.now self.now.epoch (one_past found) (i + 1) }
+    {
+        found.or((self.index.held.epoch(i) <= self.epoch).then_some(i as u8))
+    }
+
+    // For each place the last one of its stream and transaction that is looked at.
+    fn deciders(&self) -> [Option<u8>; 256]
+        ensures { Deciders result self.now.index.held.bytes.now self.now.index.held.count self.now.epoch }
+    {
+        let mut decider = [None; 256];
+        for i in (0..self.index.held.count).rev() {
+            let found = self.decider_of(decider[i], i);
+            decider[i] = found;
+            if let Some(before) = self.last[i] {
+                decider[usize::from(before)] = found;
+            }
+        }
+        decider
+    }
+
+    // ---- all verdicts
+
+    // The verdict of place i, those of the places after it being known; none of a later epoch, which is not looked at.
+    fn answer_at(
+        &self,
+        decider: &[Option<u8>; 256],
+        answers: &[Option<Verdict>; 256],
+        i: usize,
+    ) -> Option<Verdict>
+        requires { Known self.now.index.held.bytes.now decider.now answers.now self.now.index.held.count self.now.epoch i }
+        ensures { result ≡ answer_at self.now.index.held.bytes.now self.now.index.held.count self.now.epoch i }
+    {
+        if self.epoch < self.index.held.epoch(i) {
+            return None;
+        }
+        let decides = usize::from(decider[i]?);
+        if decides == i {
+            return Some(self.decided_by(i));
+        }
+        answers[decides]
+    }
+}
+
+ghost use Rattle.verdicts.specs.Verdicts.{Verdicts};
+
+// The verdicts of the places, in two passes back over them; a coordinator's CC is looked for along the chains.
+pub fn verdicts(held: Section, last: &[Option<u8>; 256], epoch: u32) -> [Option<Verdict>; 256]
+    requires { Orderly held.bytes.now held.count × Lasts last.now held.bytes.now held.count }
+    ensures { Verdicts result held.entry.bytes.now held.entry.count epoch }
 {
-    commits_at(
-        held,
+    let closing = Closing {
+        index: Index::of(held),
+        last,
         epoch,
-        lookback::last_indexed(held, head, next, n, fragment, transaction),
-    )
-}
-
-// Place i is a P that is to be flagged: it is not flagged yet, and its coordinator's stream has the CC.
-fn to_flag(
-    held: &[u8],
-    head: &[u16; 256],
-    next: &[u16; 256],
-    n: usize,
-    epoch: u32,
-    i: usize,
-) -> bool
-    requires { (n ≤ 256) × (n * 20 ≤ length held.now) × (i < n) × Orderly held.now n × Indexed held.now head.now next.now n }
-    ensures { result ≡ to_flag (decides held.now n epoch) (item_at held.now i).entry }
-{
-    if lookback::kind_at(held, i) != Entry::P {
-        return false;
+    };
+    let decider = closing.deciders();
+    let mut answers = [None; 256];
+    for i in (0..held.count).rev() {
+        answers[i] = closing.answer_at(&decider, &answers, i);
     }
-    if held::flagged_at(held, i) {
-        return false;
-    }
-    let coordinator = held::argument_at(held, i);
-    decides(
-        held,
-        head,
-        next,
-        n,
-        epoch,
-        coordinator as u8,
-        lookback::transaction_at(held, i),
-    )
-}
-
-// The verdict that place i decides; `last` is what looking back from it finds.
-fn decided_by(
-    held: &[u8],
-    head: &[u16; 256],
-    next: &[u16; 256],
-    n: usize,
-    epoch: u32,
-    last: u16,
-    i: usize,
-) -> u8
-    requires { (n ≤ 256) × (n * 20 ≤ length held.now) × (i < n) × Orderly held.now n × (last ≡ last_before held.now i) × Indexed held.now head.now next.now n }
-    ensures { result ≡ number_of (decided_by (decides held.now n epoch) held.now i) }
-{
-    let kind = lookback::kind_at(held, i);
-    if kind == Entry::A {
-        return FREE;
-    }
-    if kind == Entry::CC {
-        return INSTALL;
-    }
-    if kind == Entry::CP {
-        return if flagged_at(held, last) {
-            FREE
-        } else {
-            INSTALL
-        };
-    }
-    if to_flag(held, head, next, n, epoch, i) {
-        FLAG
-    } else {
-        STAY
-    }
-}
-
-// ---- the place that decides
-
-// Going back over the places, at the one before m: what was found for it after it, or itself if it is looked at.
-fn decider_of(held: &[u8], epoch: u32, found: u16, m: usize) -> u16
-    requires { (m ≤ 256) × (0 < m) × (m * 20 ≤ length held.now) }
-    ensures { result ≡ decider_of held.now epoch found m }
-{
-    if found != 0 {
-        return found;
-    }
-    if held::epoch_at(held, m - 1) <= epoch {
-        m as u16
-    } else {
-        0
-    }
-}
-
-// For each of n places the last one of its stream and transaction that is looked at.
-fn deciders(held: &[u8], last: &[u16; 256], n: usize, epoch: u32) -> [u16; 257]
-    requires { (n ≤ 256) × (n * 20 ≤ length held.now) × Lasts last.now held.now n }
-    ensures { Deciders result held.now n epoch }
-{
-    let mut decider = [0u16; 257];
-    let mut m = n;
-    while m != 0 {
-        let x = decider_of(held, epoch, decider[m], m);
-        let before = lookback::wide16(last[m - 1]);
-        decider[m] = x;
-        decider[before] = x;
-        m -= 1;
-    }
-    decider
-}
-
-// ---- all verdicts
-
-// The verdict of place i, those of the places after it being known.
-fn number_of(
-    held: &[u8],
-    last: &[u16; 256],
-    decider: &[u16; 257],
-    head: &[u16; 256],
-    next: &[u16; 256],
-    numbers: &[u8; 256],
-    n: usize,
-    epoch: u32,
-    i: usize,
-) -> u8
-    requires { Known held.now last.now decider.now head.now next.now numbers.now n epoch i }
-    ensures { result ≡ number_at held.now n epoch i }
-{
-    if epoch < held::epoch_at(held, i) {
-        return LATER;
-    }
-    let m = lookback::wide16(decider[i + 1]);
-    if m == i + 1 {
-        return decided_by(held, head, next, n, epoch, last[i], i);
-    }
-    numbers[m - 1]
-}
-
-// The verdicts of n places, in two passes back over them; a coordinator's CC is looked for along the chains.
-pub fn verdicts(held: &[u8], last: &[u16; 256], n: usize, epoch: u32) -> [u8; 256]
-    requires { (n ≤ 256) × (n * 20 ≤ length held.now) × Orderly held.now n × Lasts last.now held.now n }
-    ensures { Verdicts result held.now n epoch }
-{
-    let decider = deciders(held, last, n, epoch);
-    let index = lookback::index_places(held, n);
-    let head = index.head;
-    let next = index.next;
-    let mut numbers = [LATER; 256];
-    let mut m = n;
-    while m != 0 {
-        m -= 1;
-        numbers[m] = number_of(held, last, &decider, &head, &next, &numbers, n, epoch, m);
-    }
-    numbers
+    answers
 }

@@ -1,56 +1,99 @@
 // Numbers in bytes, the lowest byte first: reading and writing them in a lent slice; and copying bytes over others.
 #![tactic(auto)]
 
-ghost use Rattle.std.specs.Prelude.{◌≡◌, ◌+◌, ◌*◌, ◌<◌, ◌≤◌, ◌++◌, length, drop};
+ghost use Rattle.std.specs.Prelude.{◌≡◌, ℕ, ◌+◌, ◌^◌, ◌<◌, ◌≤◌, ◌++◌, List, length, drop};
 ghost use Rattle.wire.specs.Numbers.{number16, number32, with16, with32};
+ghost use Rattle.wire.specs.Laws.{get16_put16, get32_put32, length_put16, length_put32};
 
-// Bytes, the lowest first, as a number.
-fn join16(a: u8, b: u8) -> u16
-    ensures { result ≡ a + 256 * b }
-{
-    (a as u16) + 256 * (b as u16)
+// A number that stands in `width` bytes, the lowest first.
+pub trait Number {
+    ghost width: { ℕ };
+
+    // The number from an index on, and the bytes with a number written there.
+    ghost number: { List ℕ → ℕ → Self };
+
+    ghost with: { List ℕ → ℕ → Self → List ℕ };
+
+    ghost fits: { Self → Type 0 };
+
+    fn read(s: &[u8], at: usize) -> Self
+        requires { at + width ≤ length s.now }
+        ensures { result ≡ number s.now at };
+
+    fn write(self, s: &mut [u8], at: usize)
+        requires { at + width ≤ length s.old }
+        ensures { s.new ≡ with s.old at self };
+
+    // What is written is read, and the bytes stay as many.
+    ghost written: { (l : List ℕ) (at : ℕ) (v : Self) → at + width ≤ length l → fits v → number (with l at v) at ≡ v };
+
+    ghost as_long: { (l : List ℕ) (at : ℕ) (v : Self) → length (with l at v) ≡ length l };
 }
 
-fn join32(a: u8, b: u8, c: u8, d: u8) -> u32
-    ensures { result ≡ a + 256 * b + 65536 * c + 16777216 * d }
-{
-    (a as u32) + 256 * (b as u32) + 65536 * (c as u32) + 16777216 * (d as u32)
+#[tactic(auto, unfolding(crate::specs::Numbers::number16, crate::specs::Numbers::with16))]
+impl Number for u16 {
+    ghost width = { 2 };
+
+    ghost number = { number16 };
+
+    ghost with = { with16 };
+
+    ghost fits = { λ v. v < 2 ^ 16 };
+
+    fn read(s: &[u8], at: usize) -> u16 {
+        u16::from_le_bytes([s[at], s[at + 1]])
+    }
+
+    fn write(self, s: &mut [u8], at: usize) {
+        let [b0, b1] = self.to_le_bytes();
+        s[at] = b0;
+        s[at + 1] = b1;
+    }
+
+    ghost written = { get16_put16 };
+
+    ghost as_long = { length_put16 };
 }
 
-#[tactic(auto, unfolding(crate::specs::Numbers::number16))]
-pub fn get16(s: &[u8], at: usize) -> u16
-    requires { at + 2 ≤ length s.now }
-    ensures { result ≡ number16 s.now at }
-{
-    join16(s[at], s[at + 1])
+#[tactic(auto, unfolding(crate::specs::Numbers::number32, crate::specs::Numbers::with32))]
+impl Number for u32 {
+    ghost width = { 4 };
+
+    ghost number = { number32 };
+
+    ghost with = { with32 };
+
+    ghost fits = { λ v. v < 2 ^ 32 };
+
+    fn read(s: &[u8], at: usize) -> u32 {
+        u32::from_le_bytes([s[at], s[at + 1], s[at + 2], s[at + 3]])
+    }
+
+    fn write(self, s: &mut [u8], at: usize) {
+        let [b0, b1, b2, b3] = self.to_le_bytes();
+        s[at] = b0;
+        s[at + 1] = b1;
+        s[at + 2] = b2;
+        s[at + 3] = b3;
+    }
+
+    ghost written = { get32_put32 };
+
+    ghost as_long = { length_put32 };
 }
 
-#[tactic(auto, unfolding(crate::specs::Numbers::number32))]
-pub fn get32(s: &[u8], at: usize) -> u32
-    requires { at + 4 ≤ length s.now }
-    ensures { result ≡ number32 s.now at }
+pub fn get<N: Number>(s: &[u8], at: usize) -> N
+    requires { at + N.width ≤ length s.now }
+    ensures { result ≡ N.number s.now at }
 {
-    join32(s[at], s[at + 1], s[at + 2], s[at + 3])
+    N::read(s, at)
 }
 
-#[tactic(auto, unfolding(crate::specs::Numbers::with16))]
-pub fn put16(s: &mut [u8], at: usize, v: u16)
-    requires { at + 2 ≤ length s.old }
-    ensures { s.new ≡ with16 s.old at v }
+pub fn put<N: Number>(s: &mut [u8], at: usize, v: N)
+    requires { at + N.width ≤ length s.old }
+    ensures { s.new ≡ N.with s.old at v }
 {
-    s[at] = (v % 256) as u8;
-    s[at + 1] = (v / 256) as u8;
-}
-
-#[tactic(auto, unfolding(crate::specs::Numbers::with32))]
-pub fn put32(s: &mut [u8], at: usize, v: u32)
-    requires { at + 4 ≤ length s.old }
-    ensures { s.new ≡ with32 s.old at v }
-{
-    s[at] = (v % 256) as u8;
-    s[at + 1] = (v / 256 % 256) as u8;
-    s[at + 2] = (v / 65536 % 256) as u8;
-    s[at + 3] = (v / 16777216) as u8;
+    v.write(s, at)
 }
 
 // Copies bytes over the first ones of a slice; those after them stay.

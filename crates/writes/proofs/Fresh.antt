@@ -6,8 +6,8 @@ use mathlib.Core.List.{List, ◌++◌}
 use native.Mathlib.Omega.{arith}
 use native.Mathlib.Decide.{dec_lt}
 use borrow.Author.Tests.{leb-true}
-use lib.ListN.{length, get_or, drop, set, get_or-eq_default}
-use lib.Seq.{get_or-set_same, get_or-set_other}
+use lib.ListN.{length, get_or, drop, replicate, get_or-eq_default, length-replicate}
+use Rattle.std.proofs.lemmas.List.{get_or-replicate}
 use Rattle.wire.specs.Numbers.{number16}
 use Rattle.model.specs.Lists.{every}
 use Rattle.model.specs.Account.{absent, fresh_counters, account_fits, fresh}
@@ -30,23 +30,15 @@ pub freed : (l : List ℕ) → view_lot (FREE ++ drop 4 l) ≡ free
 unfolding view_lot view same
 freed l = refl
 
--- ---- bytes made zero, one after the other
+-- ---- bytes made zero
 
-module _ (r : List ℕ) (i : ℕ) where
-  pub zero_more : i < length r → ((n : ℕ) → n < i → get_or r n 0 ≡ 0) → (n : ℕ) → n < i + 1 → get_or (set r i 0) n 0 ≡ 0
-  zero_more l z n h = go (dec_lt n i)
-    where
-      go : Dec (n < i) → get_or (set r i 0) n 0 ≡ 0
-      go (yes m) = get_or-set_other r i n 0 0 (λ e. omega arith) ∙ z n m
-      go (no m) = let e : n ≡ i = omega arith in rw e (get_or-set_same r i 0 0 l)
-
-  pub all_zero : length r ≤ i → ((n : ℕ) → n < i → get_or r n 0 ≡ 0) → Zeros r
-  unfolding Zeros
-  all_zero l z n = go (dec_lt n i)
-    where
-      go : Dec (n < i) → get_or r n 0 ≡ 0
-      go (yes m) = z n m
-      go (no m) = get_or-eq_default r 0 {n = n} (omega arith)
+pub all_zero : (n : ℕ) (r : List ℕ) → r ≡ replicate {A = ℕ} n 0 → Zeros r
+unfolding Zeros
+all_zero n r e i = rw e (go (dec_lt i n))
+  where
+    go : Dec (i < n) → get_or {A = ℕ} (replicate n 0) i 0 ≡ 0
+    go (yes m) = get_or-replicate n i 0 0 m
+    go (no m) = get_or-eq_default (replicate n 0) 0 {n = i} (omega (arith, length-replicate {A = ℕ} n 0))
 
 pub no_record : (r : List ℕ) → Zeros r → (i k : ℕ) → record_at r i k ≡ absent
 unfolding Zeros record_at

@@ -14,34 +14,39 @@ ghost use Rattle.writes.specs.Fresh.{fresh_streams, Zeros};
 use lot::Account;
 use model::Counters;
 
+// A lot is lent as a slice, a part from the middle of the memory: `&mut [u8; SIZE]` would come from `first_chunk_mut`, with a `None`
+// that can't be. A function for each section says what of the lot changes; one that takes a closure would say it by `F.post`.
+
 // ---- each function here lends one section
 
+#[tactic(auto, using(crate::proofs::Parts::head_lent))]
 pub fn set_head(lot: &mut [u8], account: Account)
     requires { length lot.old ≡ SIZE }
     ensures { WithHead lot.old lot.new (head_bytes account) }
 {
-    lot::write_head(&mut lot[0..lot::STREAMS], account);
+    lot::write_head(&mut lot[lot::HEAD], account);
 }
 
+#[tactic(auto, using(crate::proofs::Parts::streams_set))]
 pub fn set_counters(lot: &mut [u8], i: usize, c: Counters)
     requires { (length lot.old ≡ SIZE) × (i < 8) }
     ensures { WithStreams lot.old lot.new (with_counters (streams_of lot.old) i c) }
 {
-    lot::write_counters(&mut lot[lot::STREAMS..lot::PLACES], i, c);
+    lot::write_counters(&mut lot[lot::STREAMS], i, c);
 }
 
 pub fn set_record(lot: &mut [u8], i: usize, k: usize, value: u32)
     requires { (length lot.old ≡ SIZE) × (i < 8) × (k < 128) }
     ensures { WithRecords lot.old lot.new (with_record (records_of lot.old) i k value) }
 {
-    lot::put_record(&mut lot[lot::RECORDS..lot::SIZE], i, k, value);
+    lot::put_record(&mut lot[lot::RECORDS], i, k, value);
 }
 
 pub fn unset_record(lot: &mut [u8], i: usize, k: usize)
     requires { (length lot.old ≡ SIZE) × (i < 8) × (k < 128) }
     ensures { WithRecords lot.old lot.new (without_record (records_of lot.old) i k) }
 {
-    lot::delete_record(&mut lot[lot::RECORDS..lot::SIZE], i, k);
+    lot::delete_record(&mut lot[lot::RECORDS], i, k);
 }
 
 // The first bytes of the streams, and of the places.
@@ -49,46 +54,35 @@ pub fn set_streams(lot: &mut [u8], from: &[u8])
     requires { (length lot.old ≡ SIZE) × (length from.now ≤ 64) }
     ensures { WithStreams lot.old lot.new (overwritten from.now (streams_of lot.old)) }
 {
-    wire::copy(from, &mut lot[lot::STREAMS..lot::PLACES]);
+    wire::copy(from, &mut lot[lot::STREAMS]);
 }
 
 pub fn set_places(lot: &mut [u8], from: &[u8])
     requires { (length lot.old ≡ SIZE) × (length from.now ≤ 5120) }
     ensures { WithPlaces lot.old lot.new (overwritten from.now (places_of lot.old)) }
 {
-    wire::copy(from, &mut lot[lot::PLACES..lot::RECORDS]);
+    wire::copy(from, &mut lot[lot::PLACES]);
 }
 
 // ---- a whole lot
 
 // Makes all eight streams fresh.
+#[tactic(auto, unfolding(crate::specs::Fresh::fresh_streams))]
 fn fresh_streams(streams: &mut [u8])
     requires { length streams.old ≡ 64 }
     ensures { streams.new ≡ fresh_streams streams.old 8 }
 {
-    let mut i: usize = 0;
-    while i < 8 {
+    for i in 0..8 {
         lot::write_counters(streams, i, Counters::fresh());
-        i += 1;
     }
 }
 
-// Makes every record absent.
-fn clear_records(records: &mut [u8])
-    ensures { Zeros records.new }
-{
-    let mut i: usize = 0;
-    while i < records.len() {
-        records[i] = 0;
-        i += 1;
-    }
-}
-
+#[tactic(auto, using(crate::proofs::Parts::streams_set))]
 fn set_fresh_streams(lot: &mut [u8])
     requires { length lot.old ≡ SIZE }
     ensures { WithStreams lot.old lot.new (fresh_streams (streams_of lot.old) 8) }
 {
-    fresh_streams(&mut lot[lot::STREAMS..lot::PLACES]);
+    fresh_streams(&mut lot[lot::STREAMS]);
 }
 
 // Makes every record of a lot absent.
@@ -96,7 +90,7 @@ pub fn unset_records(lot: &mut [u8])
     requires { length lot.old ≡ SIZE }
     ensures { WithRecords lot.old lot.new (records_of lot.new) × Zeros (records_of lot.new) }
 {
-    clear_records(&mut lot[lot::RECORDS..lot::SIZE]);
+    lot[lot::RECORDS].fill(0);
 }
 
 // Makes a lot free: it writes the tag and nothing else.
@@ -107,7 +101,7 @@ pub fn free_lot(lot: &mut [u8])
     wire::copy(b"FREE", lot);
 }
 
-// Opens an account in a lot, whatever stood there.
+// Opens an account in a lot, whatever stood there. It takes the three numbers, since an `Account` may have any held count and closed epoch.
 pub fn open_lot(lot: &mut [u8], number: u16, fragments: u8, keys: u16)
     requires { (length lot.old ≡ SIZE) × (account_fits number fragments keys ≡ true) }
     ensures { view_lot lot.new ≡ holds (fresh number fragments keys) }

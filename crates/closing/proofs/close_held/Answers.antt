@@ -1,43 +1,30 @@
 -- `close_held` leaves the lot holding the account with the epoch closed, and the list with its pieces. Assumes nothing.
+use native.Mathlib.Omega.{arith}
 use mathlib.Core.Path.{◌∙◌}
-use Rattle.lot.proofs.Lengths.{length_places}
+use borrow.Author.Rules.{rules}
 use Rattle.closing.proofs.Judging.{next_epoch}
 use Rattle.closing.proofs.ClosedLot.{held_most, closable, close_done}
-use borrow.Author.Rules.{rules}
 use Rattle.closing.proofs.close_held.Goals as goal
 
-pub snapshot-old-requires : goal.snapshot-old-requires
-snapshot-old-requires c =
-    let s = c in
-    rw c.places_of.ensures (length_places s.args.lot.now s.requires.looked.size)
+pub new-held-requires : goal.new-held-requires
+new-held-requires c =
+    let few = held_most c.args.lot.now c.requires.looked in
+    (omega arith, omega arith)
 
 pub install_in-applied-requires : goal.install_in-applied-requires
 install_in-applied-requires c =
-    let n = c in
-    let k = n in
-    let s = k in (
-      s.requires.looked.size,
-      rw (n.snapshot-old.ensures, n.places_of.ensures) (closable s.args.lot.now s.requires.looked (λ i. search rules) s.args.list.now s.requires.room),
-    )
+    let k = c.requires in
+    (k.looked.size, c.new-held.ensures.1 ∙ c.from.ensures, rw (c.new-held.ensures.0, c.snapshot-old.ensures) (closable c.args.lot.now k.looked (λ i. search rules) c.args.list.now k.room))
 
 pub keep_in-left-requires : goal.keep_in-left-requires
-keep_in-left-requires c =
-    let i = c in
-    let s = i in
-    (i.install_in-applied.auto.lot ∙ s.requires.looked.size, search rules, held_most s.args.lot.now s.requires.looked)
+keep_in-left-requires c = c.install_in-applied.auto.lot ∙ c.requires.looked.size
 
 pub closed_numbers-requires : goal.closed_numbers-requires
-closed_numbers-requires c =
-    let k = c in
-    let s = k in
-    next_epoch s.args.lot.now s.requires.looked (λ i. search rules)
+closed_numbers-requires c = next_epoch c.args.lot.now c.requires.looked (λ i. search rules)
 
 pub returns : goal.returns
 returns c =
-    let h = c in
-    let k = h in
-    let i = k in
-    let n = i in
-    let s = n in
-    close_done s.args.lot.now s.requires i.install_in-applied.new.lot k.keep_in-left.new.lot h.set_head.new.lot i.install_in-applied.new.list i.install_in-applied.result.numbers i.install_in-applied.result.pieces k.keep_in-left.result
-    (rw (n.snapshot-old.ensures, n.places_of.ensures) at i.install_in-applied.ensures) (rw (n.snapshot-old.ensures, n.places_of.ensures) at k.keep_in-left.ensures) (rw h.closed_numbers.ensures at h.set_head.ensures)
+    let held = c.new-held.ensures in
+    let applied = c.install_in-applied in
+    close_done c.args.lot.now c.requires applied.new.lot c.keep_in-left.new.lot c.set_head.new.lot applied.new.list applied.result.verdicts applied.result.pieces c.keep_in-left.result
+    (rw (held.0, c.snapshot-old.ensures) at applied.ensures) (rw (held.0, c.snapshot-old.ensures, held.1, c.from.ensures) at c.keep_in-left.ensures) (rw c.closed_numbers.ensures at c.set_head.ensures)

@@ -6,5 +6,4 @@ use Rattle.closing.proofs.install_in.Goals as goal
 pub returns : goal.returns
 returns c =
     let f = c.install_pieces in
-    let s = c in
-    records_installed s.args.lot.now f.new.records s.requires.0 (omega arith) f.ensures
+    records_installed c.args.lot.now f.new.records c.requires.0 {n = c.args.account} (omega arith) (rw c.requires.1 at f.ensures)

@@ -6,5 +6,4 @@ use Rattle.closing.proofs.keep_in.Goals as goal
 pub returns : goal.returns
 returns c =
     let f = c.keep_survivors in
-    let s = c in
-    places_kept s.args.lot.now f.new.section s.requires.0 (omega arith) f.ensures.0 f.ensures.1
+    places_kept c.args.lot.now f.new.section c.requires (omega arith) f.ensures.0 f.ensures.1

@@ -4,23 +4,21 @@ use native.Mathlib.Numerals.{add-one}
 use Rattle.epoch.proofs.Closing.{in_order_law, few, installed}
 use Rattle.epoch.proofs.install_pieces.Goals as goal
 
-pub verdicts-numbers-requires : goal.verdicts-numbers-requires
-verdicts-numbers-requires c =
-    let p = c.requires in
-    (p.most, omega (arith, p.most, p.places), in_order_law p.fits, c.lasts-last.ensures)
+pub verdicts-verdicts-requires : goal.verdicts-verdicts-requires
+verdicts-verdicts-requires c = (in_order_law c.requires.fits, c.lasts-last.ensures)
 
-pub install_all-pieces-requires : goal.install_all-pieces-requires
-install_all-pieces-requires c =
-    let p = c.requires in
-    (record { size = p.records; long = p.long; most = p.most; room = omega (arith, p.most, p.places); orderly = in_order_law p.fits; lasts = c.lasts-last.ensures }, few p.fits _ p.most)
+pub new-requires : goal.new-requires
+new-requires c = (in_order_law c.requires.fits, c.lasts-last.ensures)
+
+pub install_all-pieces-requires-clause-few : goal.install_all-pieces-requires-clause-few
+install_all-pieces-requires-clause-few c = rw (c.new.ensures.0, c.new.ensures.1) (few c.requires.fits c.verdicts-verdicts.result (omega arith))
 
 pub overflow_cast-result : goal.overflow_cast-result
 overflow_cast-result c =
-    let p = c.requires in
-    omega (arith, c.install_all-pieces.ensures.counted, few p.fits c.verdicts-numbers.result p.most)
+    let k = rw (c.new.ensures.0, c.new.ensures.1) at c.install_all-pieces.ensures in
+    omega (arith, k.counted, few c.requires.fits c.verdicts-verdicts.result (omega arith))
 
 pub returns : goal.returns
 returns c =
-    let s = c in
-    let v = c.verdicts-numbers in
-    installed s.requires.fits v.result (rw (add-one s.args.closed) at v.ensures) s.requires.most s.requires.long c.install_all-pieces.ensures
+    installed c.requires.fits c.verdicts-verdicts.result (rw (add-one c.args.closed) at c.verdicts-verdicts.ensures) c.requires.most c.requires.long
+    (rw (c.new.ensures.0, c.new.ensures.1) at c.install_all-pieces.ensures)

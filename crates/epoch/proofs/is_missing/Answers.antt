@@ -6,4 +6,4 @@ use Rattle.epoch.proofs.is_missing.Goals as goal
 
 pub returns : goal.returns
 unfolding missing_in
-returns c = rw (c.get32.ensures, epoch_is, add-one)
+returns c = rw (c.get.ensures, c.from.ensures, epoch_is, add-one)

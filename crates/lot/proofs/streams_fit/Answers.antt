@@ -1,16 +1,14 @@
--- `streams_fit` tests each stream below n. The invariant: the answer so far is that of the streams below i. Assumes nothing.
-use mathlib.Core.Path.{refl}
-use native.Mathlib.Numerals.{add-one}
-use native.Mathlib.Omega.{arith}
-use Rattle.lot.specs.View.{all_below}
+-- `streams_fit` tests each of the first n streams. Assumes nothing.
+use mathlib.Core.Path.{refl, ◌∙◌}
+use Rattle.std.proofs.Common.{arith, rules, tests}
+use Rattle.std.proofs.lemmas.Iterator.{YieldsList-from_range}
+use Rattle.std.proofs.lemmas.Iterator.Search.{all_from_yields_List}
+use Rattle.lot.specs.View.{stream_fits}
+use Rattle.lot.proofs.Views.{below_all}
 use Rattle.lot.proofs.streams_fit.Goals as goal
 
-pub loop-i-init : goal.loop-i-init
-unfolding all_below
-loop-i-init c = (omega arith, refl)
-
-pub loop-i-preserved : goal.loop-i-preserved
-unfolding all_below
-loop-i-preserved c =
-    let l = c.loop-i in
-    (omega arith, rw (c.stream_fits-ok.ensures, add-one l.i, l.invariant.1))
+pub returns : goal.returns
+returns c =
+    let n = c.args.n in
+    let p = stream_fits c.args.closed c.args.streams.now in
+    all_from_yields_List p _ _ _ c.all.ensures.ran (YieldsList-from_range 0 n n refl (omega arith)) (λ x b q k. search (rules, tests)) ∙ below_all p n

@@ -1,6 +1,6 @@
 -- `find` answers what the named lot and account are. Assumes nothing.
 use mathlib.Core.Path.{sym, ◌∙◌}
-use Rattle.lots.proofs.Parts.{lot_inside}
+use Rattle.lots.proofs.Parts.{lot_inside, lot_long}
 use Rattle.lots.proofs.Looks.{not_there, finds}
 use Rattle.lots.proofs.find.Goals as goal
 
@@ -9,12 +9,17 @@ returns-then-not-lot_fits c =
     let a = c.args in
     not_there a.memory.now a.lots a.lot a.account (sym c.lot_fits.ensures ∙ c.if-not-lot_fits.true)
 
-pub look_in-requires : goal.look_in-requires
-look_in-requires c =
+pub lot_in-requires : goal.lot_in-requires
+lot_in-requires c =
     let a = c.args in
     lot_inside a.lots a.lot a.memory.now (sym c.lot_fits.ensures ∙ c.if-not-lot_fits.false)
+
+pub find-requires : goal.find-requires
+find-requires c =
+    let a = c.args in
+    rw c.lot_in.ensures (lot_long a.memory.now a.lot (lot_inside a.lots a.lot a.memory.now (sym c.lot_fits.ensures ∙ c.if-not-lot_fits.false)))
 
 pub returns : goal.returns
 returns c =
     let a = c.args in
-    cc (c.find_in.ensures, c.look_in.ensures, finds a.memory.now a.lots a.lot a.account (sym c.lot_fits.ensures ∙ c.if-not-lot_fits.false))
+    rw (c.find.ensures, c.lot_in.ensures) (finds a.memory.now a.lots a.lot a.account (sym c.lot_fits.ensures ∙ c.if-not-lot_fits.false))

@@ -1,11 +1,7 @@
 -- `survey_lots` answers what all lots are, for a call that opens an account. The invariant: it has what the first i lots are. Assumes nothing.
-use Prim.Native.Nat.{◌≤◌, ◌-◌}
 use mathlib.Core.Path.{◌≡◌}
 use Rattle.lots.specs.Looks.{survey_of}
 use Rattle.lots.proofs.survey_lots.Given as goal
 
 abbrev pub invariant-loop-i : goal.invariant-loop-i
-invariant-loop-i l = (l.i ≤ l.lots) × (l.s ≡ survey_of l.memory l.account l.i)
-
-abbrev pub decreases-loop-i : goal.decreases-loop-i
-decreases-loop-i l = l.lots - l.i
+invariant-loop-i l = l.s ≡ survey_of l.memory l.account l.i

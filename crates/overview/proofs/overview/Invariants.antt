@@ -1,10 +1,7 @@
 -- `overview` fills in row after row: the rows of the lots below i stand, and the later ones are as they were lent. Assumes nothing.
-use Rattle.std.proofs.Common.{◌≡◌, ◌-◌, ◌≤◌}
+use Rattle.std.proofs.Common.{◌≡◌}
 use Rattle.overview.specs.Overview.{rows_with}
 use Rattle.overview.proofs.overview.Given as goal
 
 abbrev pub invariant-loop-i : goal.invariant-loop-i
-invariant-loop-i l = (l.i ≤ l.n) × (l.rows ≡ rows_with l.memory l.initial.rows l.i)
-
-abbrev pub decreases-loop-i : goal.decreases-loop-i
-decreases-loop-i l = l.n - l.i
+invariant-loop-i l = l.rows ≡ rows_with l.memory l.initial.rows l.i

@@ -1,13 +1,9 @@
--- `insert` makes room for a place, and puts it in. Assumes nothing.
+-- `insert` moves the places on, and puts the new one in. Assumes nothing.
 use native.Mathlib.Omega.{arith}
-use lib.Seq.{take-length}
 use Rattle.places.proofs.Moves.{insert_is}
 use Rattle.places.proofs.insert.Goals as goal
 
--- src/lib.rt:39:1
 pub returns : goal.returns
 returns c =
-    let cp = c.copy in
-    let sh = c in
-    let a = sh.args in
-    insert_is a.held.now a.place.now cp.new.to sh.shift.new.held a.start a.end (omega arith) (omega arith) (omega arith) sh.shift.ensures (rw take-length cp.ensures)
+    let a = c.args in
+    rw c.copy_from_slice.ensures.after (insert_is a.held.now a.place.now c.copy_within.new.self a.start a.end (omega arith) (omega arith) (omega arith) c.copy_within.ensures.after)

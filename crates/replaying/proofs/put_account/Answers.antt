@@ -1,11 +1,14 @@
 -- The records and the held count of the account that is found. Assumes nothing.
-use native.Mathlib.Omega.{arith}
 use mathlib.Core.Path.{sym}
+use native.Mathlib.Omega.{arith}
 use Rattle.replaying.proofs.Records.{found_limits, account_printed}
 use Rattle.replaying.proofs.put_account.Goals as goal
 
-pub put_records-end-requires : goal.put_records-end-requires
-put_records-end-requires c = found_limits _ _ (sym c.in-Found.ensures)
+pub put_records-requires : goal.put_records-requires
+put_records-requires c = let f = found_limits _ _ (sym c.in-Ok.ensures) in (rw c.from.ensures f.0, rw c.from-in-Ok.ensures f.1, rw c.clear.ensures (omega arith))
 
-pub returns-in-Found : goal.returns-in-Found
-returns-in-Found c = account_printed _ _ (sym c.in-Found.ensures) c.put_records-end.ensures.wrote c.put_held.ensures.wrote (omega (arith, c.put_held.ensures.upper_bound, c.put_records-end.ensures.upper_bound))
+pub returns-in-Ok : goal.returns-in-Ok
+returns-in-Ok c =
+    account_printed _ _ (sym c.in-Ok.ensures)
+    (rw (c.clear.ensures, c.from.ensures, c.from-in-Ok.ensures) at c.put_records.ensures.wrote)
+    (rw c.from-in-Ok-2.ensures at c.held.ensures.wrote)

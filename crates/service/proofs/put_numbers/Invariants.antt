@@ -1,5 +1,5 @@
--- `put_numbers` writes the first n numbers at the front of the bytes. The invariant: the first i stand there. Assumes nothing.
-use Prim.Native.Nat.{◌*◌, ◌≤◌, ◌-◌}
+-- `put_numbers` writes the numbers at the front of the bytes. The invariant: the first i stand there. Assumes nothing.
+use Prim.Native.Nat.{◌*◌}
 use mathlib.Core.Path.{◌≡◌}
 use lib.ListN.{length, take}
 use Rattle.wire.specs.Numbers.{bytes32}
@@ -8,7 +8,4 @@ use Rattle.image.specs.Saving.{Written}
 use Rattle.service.proofs.put_numbers.Given as goal
 
 abbrev pub invariant-loop-i : goal.invariant-loop-i
-invariant-loop-i l = (l.i ≤ l.n) × (length l.bytes ≡ length l.initial.bytes) × Written l.initial.bytes l.bytes 0 (l.i * 4) (each bytes32 (take l.i l.numbers))
-
-abbrev pub decreases-loop-i : goal.decreases-loop-i
-decreases-loop-i l = l.n - l.i
+invariant-loop-i l = (length l.bytes ≡ length l.initial.bytes) × Written l.initial.bytes l.bytes 0 (l.i * 4) (each bytes32 (take l.i l.numbers))

@@ -9,5 +9,5 @@ returns c =
     let second = third in
     let first = second in
     let s = first in
-    rw (c.put32-4.ensures, third.put32-3.ensures, second.put32-2.ensures, first.put32.ensures)
+    rw (c.put-4.ensures, third.put-3.ensures, second.put-2.ensures, first.put.ensures)
     (row_written s.args.bytes.now (s.args.i * 16) s.args.row s.requires)

@@ -4,21 +4,17 @@ use Rattle.lots.proofs.Parts.{lot_inside}
 use Rattle.standby.proofs.Closing.{close_nowhere, epoch_closed}
 use Rattle.standby.proofs.close_epoch.Goals as goal
 
-pub returns-then-not-lot_fits : goal.returns-then-not-lot_fits
-returns-then-not-lot_fits c =
-    let f = c in
-    let a = f.args in
-    close_nowhere a.memory.now a.lots a.lot a.account a.list.now (sym f.lot_fits.ensures ∙ c.if-not-lot_fits.true)
+pub returns-else-lot_fits : goal.returns-else-lot_fits
+returns-else-lot_fits c =
+    let a = c.args in
+    close_nowhere a.memory.now a.lots a.lot a.account a.list.now (sym c.lot_fits.ensures ∙ c.if-lot_fits.false)
 
 pub close_in-requires : goal.close_in-requires
 close_in-requires c =
-    let f = c in
-    let a = f.args in
-    lot_inside a.lots a.lot a.memory.now (sym f.lot_fits.ensures ∙ c.if-not-lot_fits.false)
+    let a = c.args in
+    lot_inside a.lots a.lot a.memory.now (sym c.lot_fits.ensures ∙ c.if-lot_fits.true)
 
-pub returns : goal.returns
-returns c =
-    let i = c in
-    let f = i in
-    let a = f.args in
-    epoch_closed a.memory.now a.lots a.lot a.account a.list.now (sym f.lot_fits.ensures ∙ i.if-not-lot_fits.false) c.close_in.ensures
+pub returns-then-lot_fits : goal.returns-then-lot_fits
+returns-then-lot_fits c =
+    let a = c.args in
+    epoch_closed a.memory.now a.lots a.lot a.account a.list.now (sym c.lot_fits.ensures ∙ c.if-lot_fits.true) c.close_in.ensures

@@ -1,10 +1,6 @@
 -- `free_lots` frees the first n lots. The invariant: the first i are free. Assumes nothing.
-use Prim.Native.Nat.{◌≤◌, ◌-◌}
 use Rattle.standby.specs.Calls.{AllFree}
 use Rattle.standby.proofs.free_lots.Given as goal
 
 abbrev pub invariant-loop-i : goal.invariant-loop-i
-invariant-loop-i l = (l.i ≤ l.n) × AllFree l.i l.initial.memory l.memory
-
-abbrev pub decreases-loop-i : goal.decreases-loop-i
-decreases-loop-i l = l.n - l.i
+invariant-loop-i l = AllFree l.i l.initial.memory l.memory

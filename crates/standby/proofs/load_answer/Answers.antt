@@ -22,13 +22,13 @@ returns-then-survey c =
     let a = c.args in
     load_damaged a.memory.now a.lots a.«data».now (sym c.memory_fits.ensures ∙ c.if-not-memory_fits.false) _ (sym (ap (λ s. s.damaged) c.survey_lots-survey.ensures) ∙ c.if-survey.true)
 
-pub returns-in-NotAccepted : goal.returns-in-NotAccepted
-returns-in-NotAccepted c =
+pub returns-in-None : goal.returns-in-None
+returns-in-None c =
     let a = c.args in
-    load_refused a.memory.now a.lots a.«data».now (sym c.memory_fits.ensures ∙ c.if-not-memory_fits.false) _ (sym (ap (λ s. s.damaged) c.survey_lots-survey.ensures) ∙ c.if-survey.false) (sym c.in-NotAccepted.ensures)
+    load_refused a.memory.now a.lots a.«data».now (sym c.memory_fits.ensures ∙ c.if-not-memory_fits.false) _ (sym (ap (λ s. s.damaged) c.survey_lots-survey.ensures) ∙ c.if-survey.false) (sym c.in-None.ensures)
 
-pub returns-in-Accepted : goal.returns-in-Accepted
-returns-in-Accepted c =
+pub returns-in-Some : goal.returns-in-Some
+returns-in-Some c =
     let a = c.args in
     c.place_in.ensures ∙ ap place_in c.survey_lots-survey.ensures
-    ∙ load_placed a.memory.now a.lots a.«data».now (sym c.memory_fits.ensures ∙ c.if-not-memory_fits.false) _ (sym (ap (λ s. s.damaged) c.survey_lots-survey.ensures) ∙ c.if-survey.false) (sym c.in-Accepted.ensures) (c.number_judged.ensures ∙ ap number_judged c.in-Accepted.is)
+    ∙ load_placed a.memory.now a.lots a.«data».now (sym c.memory_fits.ensures ∙ c.if-not-memory_fits.false) _ (sym (ap (λ s. s.damaged) c.survey_lots-survey.ensures) ∙ c.if-survey.false) (sym c.in-Some.ensures) (c.number_judged.ensures ∙ ap number_judged c.in-Some.is)

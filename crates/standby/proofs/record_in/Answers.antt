@@ -1,12 +1,9 @@
 -- `record_in` answers a record of one lot. Assumes nothing.
-use Rattle.lot.specs.Layout.{records_of}
-use Rattle.lot.specs.View.{record_at}
-use Rattle.lot.specs.Writing.{found_of}
-use mathlib.Core.Path.{◌∙◌, ap}
-use Rattle.lots.proofs.Parts.{part_is}
+use Rattle.lots.proofs.Parts.{lot_long}
 use Rattle.standby.proofs.record_in.Goals as goal
 
+pub record_of-requires : goal.record_of-requires
+record_of-requires c = (rw c.lot_in.ensures (lot_long c.args.memory.now c.args.lot c.requires.0), c.requires.1, c.requires.2)
+
 pub returns : goal.returns
-returns c =
-    let a = c.args in
-    c.record_of.ensures ∙ ap (λ l. found_of (record_at (records_of l) a.fragment a.key)) (part_is a.memory.now a.lot)
+returns c = rw c.lot_in.ensures at c.record_of.ensures

@@ -1,5 +1,6 @@
 -- `save_account` meets what it owes. Assumes nothing.
 use mathlib.Core.Path.{sym}
+use Rattle.std.proofs.lemmas.Result.{err_from_is_err_and}
 use native.Mathlib.Omega.{arith}
 use Rattle.standby.proofs.Saving.{save_refused, save_short, can_save, account_saved}
 use Rattle.standby.proofs.save_account.Goals as goal
@@ -7,19 +8,20 @@ use Rattle.standby.proofs.save_account.Goals as goal
 pub returns-then-image-lt-LONGEST : goal.returns-then-image-lt-LONGEST
 returns-then-image-lt-LONGEST c =
     let a = c.args in
-    save_short a.memory.now a.lots a.lot a.account a.image.now _ (sym c.in-Found.ensures) (omega arith)
+    save_short a.memory.now a.lots a.lot a.account a.image.now _ (sym c.in_ok-found.ensures) (omega arith)
 
 pub save_in-requires : goal.save_in-requires
 save_in-requires c =
     let a = c.args in
-    can_save a.memory.now a.lots a.lot a.account a.image.now _ (sym c.in-Found.ensures) (omega arith)
+    can_save a.memory.now a.lots a.lot a.account a.image.now _ (sym c.in_ok-found.ensures) (omega arith)
 
-pub returns-in-Refused : goal.returns-in-Refused
-returns-in-Refused c =
+pub returns-in_err-found : goal.returns-in_err-found
+returns-in_err-found c =
     let a = c.args in
-    save_refused a.memory.now a.lots a.lot a.account a.image.now (sym c.in-Refused.ensures)
+    let e = err_from_is_err_and c.from_residual.result c.from_residual.ensures.1 in
+    rw (e.1, e.2) (save_refused a.memory.now a.lots a.lot a.account a.image.now (sym c.in_err-found.ensures))
 
-pub returns-else-image-lt-LONGEST : goal.returns-else-image-lt-LONGEST
-returns-else-image-lt-LONGEST c =
+pub returns : goal.returns
+returns c =
     let a = c.args in
-    account_saved a.memory.now a.lots a.lot a.account a.image.now _ (sym c.in-Found.ensures) (omega arith) c.save_in.ensures
+    account_saved a.memory.now a.lots a.lot a.account a.image.now _ (sym c.in_ok-found.ensures) (omega arith) c.save_in.ensures

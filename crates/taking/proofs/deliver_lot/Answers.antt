@@ -1,16 +1,18 @@
--- `deliver_lot` looks once, and answers what the lot means. Assumes nothing.
+-- `deliver_lot` delivers to the account that the lot holds, if it is the named one. Assumes nothing.
 use mathlib.Core.Path.{sym}
-use Rattle.taking.proofs.Answers.{damaged, free}
+use Rattle.std.proofs.lemmas.Result.{err_from_is_err_and}
+use Rattle.taking.proofs.Answers.{not_found, refused, done}
 use Rattle.taking.proofs.deliver_lot.Goals as goal
 
-pub returns-in-Damaged : goal.returns-in-Damaged
-returns-in-Damaged c =
-    let k = c in
-    let s = k in
-    damaged s.args.lot.now s.args.bytes.now s.args.number (sym c.in-Damaged.ensures)
+pub returns-in_err-account : goal.returns-in_err-account
+returns-in_err-account c =
+    let e = err_from_is_err_and c.from_residual.result c.from_residual.ensures.1 in
+    rw (e.1, e.2) (not_found c.args.lot.now c.args.bytes.now c.args.number (sym c.in_err-account.ensures))
 
-pub returns-in-Free : goal.returns-in-Free
-returns-in-Free c =
-    let k = c in
-    let s = k in
-    free s.args.lot.now s.args.bytes.now s.args.number (sym c.in-Free.ensures)
+pub returns-in_err-judge_lot : goal.returns-in_err-judge_lot
+returns-in_err-judge_lot c =
+    let e = err_from_is_err_and c.from_residual-in_err-judge_lot.result c.from_residual-in_err-judge_lot.ensures.1 in
+    rw (e.1, e.2) (refused c.args.lot.now c.args.bytes.now c.args.number (sym c.in_ok-account.ensures) c.in_err-judge_lot.ensures)
+
+pub returns : goal.returns
+returns c = done c.args.lot.now c.args.bytes.now c.args.number (sym c.in_ok-account.ensures) c.take_entry.new.lot c.in_ok-judge_lot.ensures c.take_entry.ensures

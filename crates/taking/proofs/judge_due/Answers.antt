@@ -19,14 +19,8 @@ returns-then-not-takes c =
     let s = c in
     out_of_turn _ _ _ _ s.if-e-eq-MARK.false (rw s.stage_of-s.ensures at (sym t.ensures ∙ c.if-not-takes.true))
 
-pub returns-then-held-lt-MOST_HELD : goal.returns-then-held-lt-MOST_HELD
-returns-then-held-lt-MOST_HELD c =
-    let t = c.takes in
-    let s = c in
-    taken _ _ _ _ s.if-e-eq-MARK.false (rw s.stage_of-s.ensures at (sym t.ensures ∙ c.if-not-takes.false)) c.if-held-lt-MOST_HELD.true
+pub returns-then-held : goal.returns-then-held
+returns-then-held c = full _ _ _ _ c.if-e-eq-MARK.false (rw c.stage_of-s.ensures at (sym c.takes.ensures ∙ c.if-not-takes.false)) c.if-held.true
 
 pub returns : goal.returns
-returns c =
-    let t = c.takes in
-    let s = c in
-    full _ _ _ _ s.if-e-eq-MARK.false (rw s.stage_of-s.ensures at (sym t.ensures ∙ c.if-not-takes.false)) c.if-held-lt-MOST_HELD.false
+returns c = taken _ _ _ _ c.if-e-eq-MARK.false (rw c.stage_of-s.ensures at (sym c.takes.ensures ∙ c.if-not-takes.false)) c.if-held.false

@@ -1,18 +1,12 @@
 -- `judge_inside` answers 7 to 11. Assumes nothing.
-use Rattle.taking.proofs.Judging.{seen, gap, due}
+use Rattle.std.proofs.lemmas.Result.{err_from_is_err_and}
+use Rattle.taking.proofs.Judging.{not_due, due}
 use Rattle.taking.proofs.judge_inside.Goals as goal
 
-pub returns-in-Seen : goal.returns-in-Seen
-returns-in-Seen c =
-    let q = c in
-    rw (← q.read_counters-c.ensures) (seen _ _ _ _ c.in-Seen.ensures)
+pub returns-in_err-judge_sequence : goal.returns-in_err-judge_sequence
+returns-in_err-judge_sequence c =
+    let e = err_from_is_err_and c.from_residual.result c.from_residual.ensures.1 in
+    rw (e.1, e.2, ← c.read_counters-c.ensures) (not_due _ _ _ _ c.in_err-judge_sequence.ensures)
 
-pub returns-in-Gap : goal.returns-in-Gap
-returns-in-Gap c =
-    let q = c in
-    rw (← q.read_counters-c.ensures) (gap _ _ _ _ c.in-Gap.ensures)
-
-pub returns-in-Due : goal.returns-in-Due
-returns-in-Due c =
-    let q = c in
-    rw (← q.read_counters-c.ensures, c.judge_due.ensures) (due _ _ _ _ c.in-Due.ensures)
+pub returns : goal.returns
+returns c = rw (← c.read_counters-c.ensures, c.judge_due.ensures) (due _ _ _ _ c.in_ok-judge_sequence.ensures)

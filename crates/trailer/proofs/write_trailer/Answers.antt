@@ -7,7 +7,7 @@ pub returns : goal.returns
 returns c =
     let a = c in
     let w = c.write_counts in
-    let y = c.put32 in
-    let z = c.put32-2 in
+    let y = c.put in
+    let z = c.put-2 in
     let q = c.copy in
     trailer_written a.args.bytes.now a.args.t (omega arith) w.new.bytes y.new.s z.new.s q.new.to w.ensures y.ensures z.ensures q.ensures

@@ -5,5 +5,6 @@ use Rattle.verdicts.proofs.verdicts.Goals as goal
 
 pub returns : goal.returns
 unfolding Verdicts
-returns c = let l = c.loop-m in
-    λ i u. l.invariant.3 i (omega arith) u
+returns c =
+    let l = c.loop-i in
+    λ i u. l.invariant.1 i (omega arith) u

@@ -1,0 +1,6 @@
+-- `last_from` walks along the chain of a bucket. Assumes nothing.
+use Rattle.lookback.specs.Last.{Walk}
+use Rattle.lookback.proofs.Index.last_from.Given as goal
+
+abbrev pub invariant-loop : goal.invariant-loop
+invariant-loop l = Walk l.self.held.bytes.now l.fragment l.transaction l.self.chained l.at
