@@ -47,12 +47,6 @@ impl Text {
         self.written.as_str().as_bytes()
     }
 
-    pub fn clear(&mut self)
-        ensures { self.new ≡ [] }
-    {
-        self.written.clear();
-    }
-
     // ---- what lines are made of. `write!(self.written, "held {held}\n")` was tried: it ensures what is written only where it answers Ok, and nothing says that with room it does; a line can't fail
 
     // A space and a number.

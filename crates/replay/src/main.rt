@@ -28,25 +28,24 @@ fn read_full(mut input: Stdin, buffer: &mut [u8]) -> io::Result<usize>
     Ok(read)
 }
 
-// A run of the program: what it reads and writes, its one lot, and the text of the call that was made last.
+// A run of the program: what it reads and writes, and its one lot.
 #[derive(Drop)]
 struct Run {
     input: Stdin,
     output: Stdout,
     memory: [u8; lot::SIZE],
-    out: Text,
 }
 
 impl Run {
-    fn print(&mut self) -> io::Result<()> {
-        self.output.write_all(self.out.as_bytes())
+    fn print(&mut self, text: &Text) -> io::Result<()> {
+        self.output.write_all(text.as_bytes())
     }
 
     // Closes the next epoch where it can, and answers whether it did.
     fn close_next(&mut self, account: u32) -> io::Result<bool> {
-        replaying::close_next(&mut self.memory, account, &mut self.out);
-        self.print()?;
-        Ok(!self.out.is_empty())
+        let text = replaying::close_next(&mut self.memory, account);
+        self.print(&text)?;
+        Ok(!text.is_empty())
     }
 
     // A proved loop has to end. So this one ends after more turns than there are epochs.
@@ -66,15 +65,9 @@ impl Run {
         if read == 0 {
             return Ok(false);
         }
-        replaying::deliver_entry(
-            &mut self.memory,
-            account,
-            index,
-            &entry[..read],
-            &mut self.out,
-        );
-        self.print()?;
-        if self.out.is_empty() {
+        let text = replaying::deliver_entry(&mut self.memory, account, index, &entry[..read]);
+        self.print(&text)?;
+        if text.is_empty() {
             self.close_while_it_can(account)?;
         }
         Ok(true)
@@ -96,14 +89,14 @@ impl Run {
         let header = replaying::read_header(&first[..read]);
         // One lot of its size is never refused.
         let _ = standby::start(&mut self.memory, 1);
-        replaying::open_header(&mut self.memory, header, &mut self.out);
-        self.print()?;
-        if !self.out.is_empty() {
+        let text = replaying::open_header(&mut self.memory, header);
+        self.print(&text)?;
+        if !text.is_empty() {
             return Ok(());
         }
         self.all_entries(header.account)?;
-        replaying::put_account(&self.memory, header.account, &mut self.out);
-        self.print()
+        let text = replaying::put_account(&self.memory, header.account);
+        self.print(&text)
     }
 }
 
@@ -112,7 +105,6 @@ fn main(rt: HostRuntime) -> io::Result<()> {
         input: rt.stdin(),
         output: rt.stdout(),
         memory: [0; lot::SIZE],
-        out: Text::new(),
     };
     run.replay()
 }

@@ -45,25 +45,27 @@ pub fn read_header(bytes: &[u8]) -> Header
 }
 
 // Opens the account in a memory of one lot that was started.
-pub fn open_header(memory: &mut [u8], header: Header, out: &mut Text)
-    ensures { HeaderOpened memory.old memory.new header out.new }
+pub fn open_header(memory: &mut [u8], header: Header) -> Text
+    ensures { HeaderOpened memory.old memory.new header result }
 {
-    out.clear();
+    let mut out = Text::new();
     let opened = standby::open_account(memory, 1, header.account, header.fragments, header.keys);
     if let Err(refusal) = opened {
         out.refused_header(number_of(refusal));
     }
+    out
 }
 
 // ---- an entry
 
-pub fn deliver_entry(memory: &mut [u8], account: u32, index: u64, entry: &[u8], out: &mut Text)
-    ensures { EntryDelivered memory.old memory.new account index entry.now out.new }
+pub fn deliver_entry(memory: &mut [u8], account: u32, index: u64, entry: &[u8]) -> Text
+    ensures { EntryDelivered memory.old memory.new account index entry.now result }
 {
-    out.clear();
+    let mut out = Text::new();
     if let Err(refusal) = standby::deliver(memory, 1, 0, account, entry) {
         out.refused_entry(index, number_of(refusal));
     }
+    out
 }
 
 // ---- a close
@@ -80,16 +82,17 @@ fn put_pieces(list: &[u32; 512], count: u32, out: &mut Text)
 }
 
 // Closes the next epoch where it can, and then prints something.
-pub fn close_next(memory: &mut [u8], account: u32, out: &mut Text)
-    ensures { NextClosed memory.old memory.new account out.new }
+pub fn close_next(memory: &mut [u8], account: u32) -> Text
+    ensures { NextClosed memory.old memory.new account result }
 {
-    out.clear();
+    let mut out = Text::new();
     let mut list = [0u32; 512];
     if let Ok(count) = standby::close_epoch(memory, 1, 0, account, &mut list) {
         let row = overview::row_at(memory, 1, 0);
         out.epoch(u64::from(row.closed), u64::from(count));
-        put_pieces(&list, count, out);
+        put_pieces(&list, count, &mut out);
     }
+    out
 }
 
 // ---- the end
@@ -128,18 +131,19 @@ fn put_records(memory: &[u8], account: u32, fragments: u32, keys: u32, out: &mut
 }
 
 // The records of the account and how many entries it holds.
-pub fn put_account(memory: &[u8], account: u32, out: &mut Text)
-    ensures { out.new ≡ last_text (named memory.now 1 0 account) }
+pub fn put_account(memory: &[u8], account: u32) -> Text
+    ensures { result ≡ last_text (named memory.now 1 0 account) }
 {
-    out.clear();
+    let mut out = Text::new();
     if let Ok(a) = lots::find(memory, 1, 0, account) {
         put_records(
             memory,
             account,
             u32::from(a.fragments),
             u32::from(a.keys),
-            out,
+            &mut out,
         );
         out.held(u64::from(a.held));
     }
+    out
 }
