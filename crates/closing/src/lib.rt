@@ -44,6 +44,7 @@ pub fn judge_lot(lot: &[u8], account: Account, room: usize) -> Result<(), Refusa
     judge_marks(lot, account)
 }
 
+// (A lot is a slice, as in `writes`, which has why.)
 // ---- the close
 
 // Installs and lists the pieces by the places as they stood, in the records of the lot.

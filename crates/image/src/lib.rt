@@ -30,7 +30,9 @@ fn write_record(bytes: &mut [u8], fragment: u8, key: u16, value: u32)
     wire::put(bytes, 4, value);
 }
 
-// An image that is being saved: the lent bytes, and how many of them are written.
+// (A lot and its records are slices, as in `writes` and `lot`, which have why.)
+
+// An image that is being saved: the lent bytes, and how many of them are written (no heap: the caller lends them).
 #[derive(Drop)]
 struct Saving<'a> {
     image: &'a mut [u8],

@@ -62,12 +62,15 @@ impl<'a> Snapshot<'a> {
         }
     }
 
+    // (A place's number is a plain number here, as in `lookback`, and records are a slice, as in `lot`, which have why.)
+
     // The first place of the stream and transaction of place i.
     fn first_of(&self, i: usize) -> usize
         requires { i < self.now.held.count }
         ensures { First self.now.held.bytes.now i result }
     {
         let mut first = i;
+        // A walk along the chain: there is nothing to count.
         while let Some(before) = self.last[first] {
             first = usize::from(before);
         }
@@ -155,7 +158,7 @@ impl<'a> Snapshot<'a> {
 
 // ---- what is written
 
-// What installing writes: the records, and the list, which begins with so many pieces.
+// What installing writes: the records, and the list, which begins with so many pieces (no heap: the caller lends both).
 #[derive(Drop)]
 struct Output<'o> {
     records: &'o mut [u8],

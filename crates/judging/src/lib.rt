@@ -12,6 +12,8 @@ use lookback::Section;
 use lot::Account;
 use trailer::Trailer;
 
+// (A record's number is a plain number in these, as a stream's is in `lot`: each is proved small where it is used.)
+
 // ---- the records of an image
 
 // The place of a record among all that an account may have.

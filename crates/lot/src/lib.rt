@@ -47,7 +47,7 @@ impl Account {
 
     pub const MOST_HELD: u16 = 256;
 
-    // Those of an account that is opened.
+    // Those of an account that is opened, by the three numbers that an opening names.
     pub fn fresh(number: u16, fragments: u8, keys: u16) -> Account
         ensures { result ≡ fresh_numbers number fragments keys }
     {
@@ -211,7 +211,7 @@ fn stream_fits(streams: &[u8], i: usize, closed: u32) -> bool
     (wire::get::<u16>(streams, i * 8 + 2) == 0) & (closed < wire::get::<u32>(streams, i * 8 + 4))
 }
 
-// The first n streams.
+// The first n streams, with which what is lent begins. (`records_fit` of `judging` has the same one line, of another test.)
 pub fn streams_fit(streams: &[u8], n: usize, closed: u32) -> bool
     requires { n * 8 ≤ length streams.now }
     ensures { result ≡ all_below (stream_fits closed streams.now) n }

@@ -60,7 +60,7 @@ pub fn looks_of(look: Look, account: u32) -> bool
 
 // ---- a lot and an account are named
 
-// What such a call finds: the numbers of its account, or 1, 2 or 3.
+// What such a call finds: the numbers of its account, or 1, 2 or 3. (The calls' own parameters: the C interface.)
 pub fn find(memory: &[u8], lots: u32, lot: u32, account: u32) -> Result<Account, Refusal>
     ensures { result ≡ finding_of (named memory.now lots lot account) }
 {

@@ -51,6 +51,8 @@ fn row_in(memory: &[u8], lot: usize) -> Row
     row_of(lots::look_in(memory, lot))
 }
 
+// (A row's fields, and lot and memory as parameters, are the C interface: numbers and byte slices.)
+
 // The same for a caller that lends no rows: the row of one lot, and that of a free one where there is no such lot.
 pub fn row_at(memory: &[u8], lots: u32, lot: u32) -> Row
     ensures { result ≡ row_at memory.now lots lot }

@@ -103,7 +103,7 @@ fn written_by(closed: Result<u32, Refusal>) -> usize
     }
 }
 
-// The numbers, at the front of the bytes.
+// The numbers, at the front of the bytes: the C interface, where a list is bytes.
 fn put_numbers(bytes: &mut [u8], numbers: &[u32])
     requires { length numbers.now * 4 ≤ length bytes.old }
     ensures { Written bytes.old bytes.new 0 (length numbers.now * 4) (each bytes32 numbers.now) }
@@ -138,7 +138,7 @@ pub fn standby_close(memory: &mut [u8], lots: u32, lot: u32, account: u32, list:
     pack(close_list(memory, lots, lot, account, list, &mut numbers))
 }
 
-// ---- the overview: a row crosses as four numbers
+// ---- the overview: a row crosses as four numbers (the C interface)
 
 fn put_row(bytes: &mut [u8], i: usize, row: Row)
     requires { i * 16 + 16 ≤ length bytes.old }

@@ -21,7 +21,7 @@ fn flag_left(verdict: Option<Verdict>, kind: u8, flag: u8) -> Option<u8>
     }
 }
 
-// A section that is written anew: it begins with so many places.
+// A section that is written anew: it begins with so many places (no heap: it is the lot's).
 #[derive(Drop)]
 struct Rewritten<'a> {
     section: &'a mut [u8],

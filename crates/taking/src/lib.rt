@@ -74,9 +74,10 @@ pub fn judge_lot(lot: &[u8], account: Account, bytes: &[u8]) -> Result<(), Refus
     judge_entry(lot, account, Entry::read(bytes))
 }
 
+// (A lot is a slice, as in `writes`, which has why.)
 // ---- writing
 
-// Steps the counters of stream i, and answers the epoch that was open there.
+// Steps the counters of stream i, and answers the epoch that was open there. `mark` is a Bool, as in `stepped` of the model.
 fn step_stream(lot: &mut [u8], i: usize, mark: bool) -> u32
     requires { (length lot.old ≡ SIZE) × (i < 8) × (mark ≡ true → (counters_of (drop (i * 8) (streams_of lot.old))).epoch ≤ LAST_MARK) }
     ensures { StreamStepped lot.old lot.new i mark result }
@@ -86,7 +87,7 @@ fn step_stream(lot: &mut [u8], i: usize, mark: bool) -> u32
     c.epoch
 }
 
-// Holds an entry where n are held.
+// Holds an entry where n are held: the places are lent to be written, as bytes and a count.
 fn hold_in(lot: &mut [u8], n: usize, bytes: &[u8], epoch: u32)
     requires { (length lot.old ≡ SIZE) × (n < 256) × (length bytes.now ≡ 16) }
     ensures { HeldIn lot.old lot.new n bytes.now epoch }

@@ -107,6 +107,8 @@ impl<'a> Closing<'a> {
         found.or((self.index.held.epoch(i) <= self.epoch).then_some(i as u8))
     }
 
+    // (One table a question, each by place and filled in a pass of its own; a place's number is a plain number, as in `lookback`.)
+
     // For each place the last one of its stream and transaction that is looked at.
     fn deciders(&self) -> [Option<u8>; 256]
         ensures { Deciders result self.now.index.held.bytes.now self.now.index.held.count self.now.epoch }
