@@ -25,7 +25,7 @@ use Rattle.lot.proofs.Shown.{head_shown}
 use Rattle.lot.proofs.Lengths.{length_places, length_records, records_part}
 use Rattle.lot.proofs.Views.{holds_shown, holds_well_formed, shown_count, section_fits_law}
 use Rattle.lot.specs.Look.{Looked}
-use Rattle.lot.proofs.Looked.{looked_held, known}
+use Rattle.lot.proofs.Looked.{looked_held, known, held_most}
 use Rattle.writes.specs.Sections.{WithHead}
 use Rattle.writes.proofs.Parts.{places_lent, records_lent}
 use Rattle.writes.proofs.Changes.{sections_hold, streams_same}
@@ -55,9 +55,6 @@ closes l k =
       all = length_parse 8 counters_of a.fragments (streams_of l);
       fit = rw c (section_fits_law (head_of l) (streams_of l) (places_of l) (records_of l) a y f);
     })
-
-pub held_most : (l : List ℕ) {n : numbers.Account} → Looked l n → n.held ≤ 256
-held_most l k = let h = looked_held l k.seen in let w = known k h.account h.holds_it in rw w.numbers_are w.room
 
 pub closable : (l : List ℕ) {n : numbers.Account} (k : Looked l n) → ((i : ℕ) → get_or l i 0 < 256) → (list : List ℕ) → 512 ≤ length list
     → Closable (places_of l) (records_of l) list n.fragments n.held n.closed

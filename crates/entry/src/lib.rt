@@ -6,7 +6,7 @@
 ghost use Rattle.std.specs.Prelude.{◌≡◌};
 ghost use Rattle.model.specs.Entry.{fields_fit, fits, in_account, inside};
 ghost use Rattle.model.specs.Distance.{distance};
-ghost use Rattle.model.specs.Stages.{stage_after, is_unheard, takes};
+ghost use Rattle.model.specs.Stages.{stage_after, takes};
 ghost use Rattle.entry.specs.Sequence.{sequence_of};
 
 use model::{Entry, Refusal, Stage};
@@ -36,8 +36,8 @@ pub fn in_account(fragments: u8, keys: u16, kind: u8, fragment: u8, argument: u1
 {
     (fragment < fragments)
         & ((Entry::DELETE < kind) | (argument < keys))
-        & ((kind != Entry::P) | (argument < (fragments as u16)))
-        & ((kind != Entry::P) | (argument != (fragment as u16)))
+        & ((kind != Entry::P) | (argument < u16::from(fragments)))
+        & ((kind != Entry::P) | (argument != u16::from(fragment)))
 }
 
 // Refusal 6.
@@ -78,12 +78,6 @@ pub fn stage_after(kind: u8) -> Stage
         Entry::P => Stage::Prepared,
         _ => Stage::Ended,
     }
-}
-
-pub fn is_unheard(s: Stage) -> bool
-    ensures { result ≡ is_unheard s }
-{
-    s == Stage::Unheard
 }
 
 // The table: whether an entry of this kind is taken at this stage of its transaction.

@@ -10,7 +10,6 @@ use lib.Seq.{get_or-drop}
 use Rattle.wire.specs.Numbers.{number32}
 use Rattle.model.specs.Lists.{every, all}
 use Rattle.model.specs.Entry.{CC, A, fields_fit, in_account}
-use Rattle.model.specs.Image.{Item}
 use Rattle.model.specs.Stages.{takes}
 use Rattle.model.specs.Accepting.{entry_fits, follows}
 use Rattle.model.specs.declared.Stage.{Stage}
@@ -42,10 +41,10 @@ module _ (l : List ℕ) (f i : ℕ) where
 
 -- ---- the tests of a place, one after the other
 
-pub entry_is : (f k : ℕ) (e : Item) → entry_fits f k e.stream e.entry
-    ≡ (leb e.entry.kind A && fields_fit e.entry.kind e.entry.transaction e.entry.argument e.entry.value && in_account f k e.entry.kind e.stream e.entry.argument)
+pub entry_is : (f k i : ℕ) (x : Held) → entry_fits f k i x
+    ≡ (leb x.kind A && fields_fit x.kind x.transaction x.argument x.value && in_account f k x.kind i x.argument)
 unfolding entry_fits every
-entry_is f k e = simp (and_assoc, and-true)
+entry_is f k i x = simp (and_assoc, and-true)
 
 pub turn_is : (c o : ℕ) (s : Stage) (x : Held) → follows c o [] s x
     ≡ (leb 1 x.epoch && leb x.epoch o && takes x.kind s && (ltb x.kind CC || ltb c x.epoch) && flag_fits c s x)

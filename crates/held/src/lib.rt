@@ -5,11 +5,12 @@
 ghost use Rattle.std.specs.Prelude.{◌≡◌, [], ◌+◌, ◌*◌, ◌≤◌, ◌<◌, length, drop};
 ghost use Rattle.model.specs.Accepting.{entry_fits, follows};
 ghost use Rattle.model.specs.Decoding.{counters_of, counters_at, parse};
-ghost use Rattle.model.specs.Section.{item_at, plain_place, section_fits};
+ghost use Rattle.model.specs.Section.{plain_place, section_fits};
 ghost use Rattle.lookback.specs.Last.{one_past, last_before};
+ghost use Rattle.lookback.specs.Places.{held_at};
 ghost use Rattle.held.specs.Place.{in_order, flag_fits, place_fits};
 
-use lookback::{Index, Section};
+use lookback::{Index, Place, Section};
 use model::{Entry, Stage};
 
 // What limits the entries held of an account: its fragments and keys, its closed epoch, and the open epochs of its streams, whose
@@ -35,13 +36,53 @@ impl<'a> Limits<'a> {
             1
         }
     }
+
+    // The tests are joined by `&`: with `&&`, a branch for each, the damage test took 1.24 times as long.
+
+    // The entry of a place keeps the limits by itself.
+    #[tactic(auto, using(crate::proofs::Fields::entry_is))]
+    fn entry_fits(self, place: Place) -> bool
+        ensures { result ≡ entry_fits self.entry.fragments self.entry.keys place.piece.fragment (held_at place) }
+    {
+        (place.kind <= Entry::A)
+            & entry::fields_fit(
+                place.kind,
+                place.piece.transaction,
+                place.argument,
+                place.value,
+            )
+            & entry::in_account(
+                self.fragments,
+                self.keys,
+                place.kind,
+                place.piece.fragment,
+                place.argument,
+            )
+    }
+
+    // A flag stands only on a P, of an epoch already closed, with no writes held.
+    #[tactic(auto, unfolding(crate::specs::Place::flag_fits))]
+    fn flag_fits(self, place: Place, stage: Stage) -> bool
+        ensures { result ≡ flag_fits self.entry.closed stage (held_at place) }
+    {
+        !place.flagged
+            | ((place.kind == Entry::P) & (place.epoch <= self.closed) & (stage == Stage::Unheard))
+    }
+
+    // The entry of a place comes in turn: the stage of its transaction takes it, and its epoch suits it.
+    #[tactic(auto, using(crate::proofs::Fields::turn_is))]
+    fn in_turn(self, place: Place, stage: Stage) -> bool
+        ensures { result ≡ follows self.entry.closed (counters_at (parse self.entry.fragments 8 counters_of self.entry.streams.now) place.piece.fragment).epoch [] stage (held_at place) }
+    {
+        (1 <= place.epoch)
+            & (place.epoch <= self.open_epoch(place.piece.fragment))
+            & entry::takes(place.kind, stage)
+            & ((place.kind < Entry::CC) | (self.closed < place.epoch))
+            & self.flag_fits(place, stage)
+    }
 }
 
-// The tests are joined by `&`: with `&&`, a branch for each, the damage test took 1.24 times as long.
-
-// (A place's number is a plain number in these, as in `lookback`, which has why.)
-
-// The bytes that a place does not use are zero, and its flag is 0 or 1.
+// The bytes that place i does not use are zero, and its flag is 0 or 1.
 #[tactic(auto, using(crate::proofs::Fields::plain_is))]
 fn plain_place(held: Section, i: usize) -> bool
     requires { i < held.count }
@@ -54,72 +95,32 @@ fn plain_place(held: Section, i: usize) -> bool
         & (held.bytes[at + 11] <= 1)
 }
 
-// A place stands in the order of streams, and in its stream of epochs, after the place before it.
+// Place i stands in the order of streams, and in its stream of epochs, after the place before it.
 #[tactic(auto, using(crate::proofs::Fields::order_is), unfolding(crate::specs::Place::in_order, crate::specs::Place::may_follow))]
 fn in_order(held: Section, i: usize) -> bool
     requires { i < held.count }
     ensures { result ≡ in_order held.entry.bytes.now i }
 {
-    i == 0 || (held.stream(i - 1), held.epoch(i - 1)) <= (held.stream(i), held.epoch(i))
+    if i == 0 {
+        return true;
+    }
+    let before = held.place(i - 1);
+    let place = held.place(i);
+    (before.piece.fragment, before.epoch) <= (place.piece.fragment, place.epoch)
 }
 
-// A place's entry keeps the limits by itself.
-#[tactic(auto, using(crate::proofs::Fields::entry_is))]
-fn entry_fits(limits: Limits, held: Section, i: usize) -> bool
-    requires { i < held.count }
-    ensures { result ≡ entry_fits limits.entry.fragments limits.entry.keys (item_at held.entry.bytes.now i).stream (item_at held.entry.bytes.now i).entry }
-{
-    let kind = held.kind(i);
-    let argument = held.argument(i);
-    (kind <= Entry::A)
-        & entry::fields_fit(kind, held.transaction(i), argument, held.value(i))
-        & entry::in_account(
-            limits.fragments,
-            limits.keys,
-            kind,
-            held.stream(i),
-            argument,
-        )
-}
-
-// A flag stands only on a P, of an epoch already closed, with no writes held.
-#[tactic(auto, unfolding(crate::specs::Place::flag_fits))]
-fn flag_fits(limits: Limits, held: Section, stage: Stage, i: usize) -> bool
-    requires { i < held.count }
-    ensures { result ≡ flag_fits limits.entry.closed stage (item_at held.entry.bytes.now i).entry }
-{
-    let kind = held.kind(i);
-    let epoch = held.epoch(i);
-    !held.flagged(i) | ((kind == Entry::P) & (epoch <= limits.closed) & entry::is_unheard(stage))
-}
-
-// A place's entry comes in turn: the stage of its transaction takes it, and its epoch suits it.
-#[tactic(auto, using(crate::proofs::Fields::turn_is))]
-fn in_turn(limits: Limits, held: Section, stage: Stage, i: usize) -> bool
-    requires { i < held.count }
-    ensures { result ≡ follows limits.entry.closed (counters_at (parse limits.entry.fragments 8 counters_of limits.entry.streams.now) (item_at held.entry.bytes.now i).stream).epoch [] stage (item_at held.entry.bytes.now i).entry }
-{
-    let kind = held.kind(i);
-    let epoch = held.epoch(i);
-    let opened = limits.open_epoch(held.stream(i));
-    (1 <= epoch)
-        & (epoch <= opened)
-        & entry::takes(kind, stage)
-        & ((kind < Entry::CC) | (limits.closed < epoch))
-        & flag_fits(limits, held, stage, i)
-}
-
-// A place fits; `last` is what looking back from it finds.
+// Place i fits; `last` is what looking back from it finds.
 #[tactic(auto, using(crate::proofs::Fields::place_is))]
 fn place_fits(limits: Limits, held: Section, last: Option<u8>, i: usize) -> bool
     requires { (i < held.count) × (one_past last ≡ last_before held.bytes.now i) }
     ensures { result ≡ place_fits limits.entry.keys limits.entry.closed (parse limits.entry.fragments 8 counters_of limits.entry.streams.now) held.entry.bytes.now i }
 {
+    let place = held.place(i);
     let stage = held.stage_at(last);
     plain_place(held, i)
         & in_order(held, i)
-        & entry_fits(limits, held, i)
-        & in_turn(limits, held, stage, i)
+        & limits.entry_fits(place)
+        & limits.in_turn(place, stage)
 }
 
 // The places fit. A place is chained once it is found to fit.

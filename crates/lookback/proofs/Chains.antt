@@ -10,7 +10,7 @@ use borrow.Author.Count.{below_more, below_none}
 use lib.Dec.{eqb}
 use lib.ListN.{length, get_or, set, replicate, get_or-replicate}
 use lib.Seq.{get_or-set_same, get_or-set_other}
-use Rattle.std.specs.Prelude.{Option, None, if◌then◌else◌}
+use Rattle.std.specs.Prelude.{Option, Some, None, if◌then◌else◌}
 use Rattle.model.proofs.Tests.{and_l, and_r}
 use Rattle.model.specs.Section.{item_at}
 use Rattle.lookback.specs.Last.{one_past, last_with, is_of, last_before, Lasts, bucket_of, bucket_at, in_bucket, Indexed, Walk}
@@ -87,14 +87,14 @@ key_bucket h s t i e =
     let b : (item_at h i).entry.transaction ≡ t = eqb-true _ _ (and_r (eqb (item_at h i).stream s) _ e) in
     eq-eqb (bucket_at h i) (bucket_of s t) (cc)
 
-module _ (h head next : List ℕ) (n s t : ℕ) (index : Indexed h head next n) where
-  pub walk_start : (b : ℕ) → b ≡ bucket_of s t → b < 256 → Walk h s t n (get_or head b 0)
+module _ (h : List ℕ) (head next : List (Option ℕ)) (n s t : ℕ) (index : Indexed h head next n) where
+  pub walk_start : (b : ℕ) → b ≡ bucket_of s t → b < 256 → Walk h s t n (one_past (get_or head b None))
   walk_start b eb small =
       let q : ℕ → Bool = in_bucket h (bucket_of s t) in
       rw (index.heads b small, eb)
       (record { low = last_le q n; own = last_jump q q (λ k x. x) n; same = last_jump (is_of h s t) q (key_bucket h s t) n })
 
-  pub walk_on : (i : ℕ) → Walk h s t n (suc i) → is_of h s t i ≡ false → Walk h s t n (get_or next i 0)
+  pub walk_on : (i : ℕ) → Walk h s t n (suc i) → is_of h s t i ≡ false → Walk h s t n (one_past (get_or next i None))
   unfolding in_bucket
   walk_on i w e =
       let q : ℕ → Bool = in_bucket h (bucket_of s t) in
@@ -116,28 +116,28 @@ walk_end h s t n w = sym w.same
 
 -- ---- the chains, place by place
 
-pub indexed_none : (h : List ℕ) → Indexed h (replicate 256 0) (replicate 256 0) 0
+pub indexed_none : (h : List ℕ) → Indexed h (replicate 256 None) (replicate 256 None) 0
 unfolding last_with
-indexed_none h = record { heads = λ b l. get_or-replicate 256 b 0 0 l; chained = below_none _ }
+indexed_none h = record { heads = λ b l. ap one_past (get_or-replicate 256 b None None l); chained = below_none _ }
 
-module _ (h head next : List ℕ) (i b : ℕ) (size_head : length head ≡ 256) (size_next : length next ≡ 256) (eb : b ≡ bucket_at h i) (small : b < 256) (w : Indexed h head next i) where
+module _ (h : List ℕ) (head next : List (Option ℕ)) (i b : ℕ) (size_head : length head ≡ 256) (size_next : length next ≡ 256) (eb : b ≡ bucket_at h i) (small : b < 256) (w : Indexed h head next i) where
   -- the new head of the place's bucket, and the old ones of the others
-  new_head : (x : ℕ) → x < 256 → (z : Bool) → eqb b x ≡ z → get_or (set head b (i + 1)) x 0 ≡ last_with (in_bucket h x) (i + 1)
+  new_head : (x : ℕ) → x < 256 → (z : Bool) → eqb b x ≡ z → one_past (get_or (set head b (Some i)) x None) ≡ last_with (in_bucket h x) (i + 1)
   unfolding last_with in_bucket
   new_head x y true e =
       let e' : b ≡ x = eqb-true b x e in
-      rw (← e', get_or-set_same head b (i + 1) 0 (omega arith), add-one i, ← eb, eq-eqb b b refl)
+      rw (← e', get_or-set_same head b (Some i) None (omega arith), add-one i, ← eb, eq-eqb b b refl)
   new_head x y false e =
       let n : x ≡ b → ⊥ = λ z. eqb-false b x e (sym z) in
-      rw (get_or-set_other head b x (i + 1) 0 n, add-one i, ← eb, e) (w.heads x y)
+      rw (get_or-set_other head b x (Some i) None n, add-one i, ← eb, e) (w.heads x y)
 
-  pub indexed_more : i < 256 → Indexed h (set head b (i + 1)) (set next i (get_or head b 0)) (i + 1)
+  pub indexed_more : i < 256 → Indexed h (set head b (Some i)) (set next i (get_or head b None)) (i + 1)
   indexed_more l = record {
     heads = λ x y. new_head x y (eqb b x) refl;
     chained =
         below_more _ i
-        (λ k q. let n : k ≡ i → ⊥ = λ z. omega arith in rw (get_or-set_other next i k (get_or head b 0) 0 n) (w.chained k q))
-        (rw (get_or-set_same next i (get_or head b 0) 0 (omega arith)) (w.heads b small ∙ ap (λ (x : ℕ). last_with (in_bucket h x) i) eb));
+        (λ k q. let n : k ≡ i → ⊥ = λ z. omega arith in rw (get_or-set_other next i k (get_or head b None) None n) (w.chained k q))
+        (rw (get_or-set_same next i (get_or head b None) None (omega arith)) (w.heads b small ∙ ap (λ (x : ℕ). last_with (in_bucket h x) i) eb));
   }
 
 -- ---- the table of the last places, place by place

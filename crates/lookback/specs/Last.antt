@@ -41,13 +41,13 @@ bucket_at h i = bucket_of (item_at h i).stream (item_at h i).entry.transaction
 unfoldable pub in_bucket : List ℕ → ℕ → ℕ → Bool
 in_bucket h b i = eqb (bucket_at h i) b
 
--- `next` holds, for each place below n, one more than the last one before it in its bucket, or 0
-abbrev pub Chained : List ℕ → List ℕ → ℕ → Type 0
-Chained next h n = (i : ℕ) → i < n → get_or next i 0 ≡ last_with (in_bucket h (bucket_at h i)) i
+-- `next` holds, for each place below n, the last one before it in its bucket
+abbrev pub Chained : List (Option ℕ) → List ℕ → ℕ → Type 0
+Chained next h n = (i : ℕ) → i < n → one_past (get_or next i None) ≡ last_with (in_bucket h (bucket_at h i)) i
 
--- the chains of the first n places: `head` holds one more than the last place of each bucket, or 0
-pub record Indexed (h head next : List ℕ) (n : ℕ) : Type 0 where
-  pub heads : (b : ℕ) → b < 256 → get_or head b 0 ≡ last_with (in_bucket h b) n
+-- the chains of the first n places: `head` holds the last place of each bucket
+pub record Indexed (h : List ℕ) (head next : List (Option ℕ)) (n : ℕ) : Type 0 where
+  pub heads : (b : ℕ) → b < 256 → one_past (get_or head b None) ≡ last_with (in_bucket h b) n
   pub chained : Chained next h n
 
 -- a walk over the first n places that stands at m has passed no place with the key, and m is of the bucket

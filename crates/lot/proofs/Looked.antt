@@ -67,6 +67,9 @@ known {l} k a v =
       places = rw c w.places;
     }
 
+pub held_most : (l : List ℕ) {n : Account} → Looked l n → n.held ≤ 256
+held_most l k = let h = looked_held l k.seen in let w = known k h.account h.holds_it in rw w.numbers_are w.room
+
 -- ---- what a call that names an account finds there
 
 module _ (l : List ℕ) (number : ℕ) where

@@ -3,12 +3,12 @@
 // It stands on `wire`, `model`, and `lookback` and `held`, whose test of the places is a part of the damage test.
 #![tactic(auto)]
 
-ghost use Rattle.std.specs.Prelude.{◌≡◌, ◌+◌, ◌*◌, ◌<◌, ◌≤◌, length, drop};
+ghost use Rattle.std.specs.Prelude.{◌≡◌, ◌+◌, ◌*◌, ◌<◌, ◌≤◌, length, drop, Ok, Err, MatchResult};
 ghost use Rattle.model.specs.Account.{account_fits};
 ghost use Rattle.model.specs.Decoding.{counters_of, same};
 ghost use Rattle.lot.specs.Layout.{SIZE, head_of, streams_of, places_of, records_of};
 ghost use Rattle.lot.specs.View.{tag_of, record_at, head_fits, stream_fits, all_below, fits};
-ghost use Rattle.lot.specs.Look.{look_of, finding};
+ghost use Rattle.lot.specs.Look.{look_of, Looked, finding};
 ghost use Rattle.lot.specs.Head.{numbers_of, fresh_numbers, head_bytes};
 ghost use Rattle.lot.specs.Writing.{with_counters, with_record, without_record, found_of};
 
@@ -113,7 +113,7 @@ pub fn write_head(head: &mut [u8], account: Account)
 {
     wire::copy(b"OPEN", head);
     wire::put(head, 4, account.number);
-    wire::put(head, 6, account.fragments as u16);
+    wire::put(head, 6, u16::from(account.fragments));
     wire::put(head, 8, account.keys);
     wire::put(head, 10, account.held);
     wire::put(head, 12, account.closed);
@@ -198,8 +198,11 @@ fn head_fits(head: &[u8]) -> bool
     ensures { result ≡ head_fits head.now }
 {
     let a = Account::read(head);
-    account_fits(a.number as u32, a.fragments as u32, a.keys as u32)
-        & (head[7] == 0)
+    account_fits(
+        u32::from(a.number),
+        u32::from(a.fragments),
+        u32::from(a.keys),
+    ) & (head[7] == 0)
         & (a.held <= Account::MOST_HELD)
 }
 
@@ -229,8 +232,8 @@ fn fits(head: &[u8], streams: &[u8], places: &[u8]) -> bool
         return false;
     }
     let a = Account::read(head);
-    let held = Section::new(places, a.held as usize);
-    streams_fit(streams, a.fragments as usize, a.closed)
+    let held = Section::new(places, usize::from(a.held));
+    streams_fit(streams, usize::from(a.fragments), a.closed)
         & held::section_fits(a.limits(streams), held)
 }
 
@@ -260,14 +263,42 @@ pub fn look_at(lot: &[u8]) -> Look
     Look::Holds(Account::read(head))
 }
 
-// What a call that names an account finds in a lot: the numbers of its account, or 2 or 3.
-pub fn find(lot: &[u8], number: u32) -> Result<Account, Refusal>
+// ---- an open lot
+
+// A lot that a look at it found open, with the numbers of the account that it holds.
+#[derive(Clone, Copy)]
+pub struct OpenLot<'a> {
+    pub bytes: &'a [u8],
+    pub account: Account,
+    pub ghost looked: { Looked bytes.now account },
+}
+
+impl<'a> OpenLot<'a> {
+    pub fn streams(self) -> &'a [u8]
+        ensures { result.now ≡ streams_of self.entry.bytes.now }
+    {
+        &self.bytes[STREAMS]
+    }
+
+    // The held entries.
+    pub fn held(self) -> Section<'a>
+        ensures { (result.bytes.now ≡ places_of self.entry.bytes.now) × (result.count ≡ self.entry.account.held) }
+    {
+        Section::new(&self.bytes[PLACES], usize::from(self.account.held))
+    }
+}
+
+// What a call that names an account finds in a lot: the lot with the numbers of its account, or 2 or 3.
+pub fn find(lot: &[u8], number: u32) -> Result<OpenLot<'_>, Refusal>
     requires { length lot.now ≡ SIZE }
-    ensures { result ≡ finding (look_of lot.now) number }
+    ensures { MatchResult result (λ found. (found.bytes.now ≡ lot.now) × (finding (look_of lot.now) number ≡ Ok found.account)) (λ refusal. finding (look_of lot.now) number ≡ Err refusal) }
 {
     match look_at(lot) {
         Look::Damaged => Err(Refusal::Damaged),
-        Look::Holds(a) if a.number as u32 == number => Ok(a),
+        Look::Holds(account) if u32::from(account.number) == number => Ok(OpenLot {
+            bytes: lot,
+            account,
+        }),
         _ => Err(Refusal::NotThisAccount),
     }
 }
