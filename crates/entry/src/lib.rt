@@ -31,6 +31,7 @@ pub fn fits(e: Entry) -> bool
 }
 
 // The fragment, the key and the coordinator of an entry in an account.
+#[tactic(auto, unfolding(model::specs::Entry::in_account, model::specs::Lists::every))]
 pub fn in_account(fragments: u8, keys: u16, kind: u8, fragment: u8, argument: u16) -> bool
     ensures { result ≡ in_account fragments keys kind fragment argument }
 {
