@@ -7,7 +7,7 @@ ghost use Rattle.model.specs.Decoding.{mine};
 ghost use Rattle.model.specs.Stages.{stage};
 ghost use Rattle.model.specs.Section.{item_at, items};
 ghost use Rattle.lookback.specs.Places.{place_of, stage_at};
-ghost use Rattle.lookback.specs.Last.{one_past, last_with, is_of, last_before, Lasts, bucket_of, bucket_at, Indexed, Walk};
+ghost use Rattle.lookback.specs.Last.{one_past, last_with, is_of, last_before, Lasts, Lasts-prop, bucket_of, bucket_at, Indexed, Walk};
 
 use model::Stage;
 
@@ -110,20 +110,6 @@ impl<'a> Section<'a> {
     {
         self.stage_at(self.last_of(piece, self.count))
     }
-
-    // For each place the last one before it of its piece, in one pass: a place goes back along its bucket,
-    // so the time grows with the count alone unless many transactions share a bucket.
-    #[tactic(auto, using(crate::proofs::Chains::lasts_none))]
-    pub fn lasts(self) -> [Option<u8>; 256]
-        ensures { Lasts result self.entry.bytes.now self.entry.count }
-    {
-        let mut last = [None; 256];
-        let mut index = Index::new(self);
-        for i in 0..self.count {
-            last[i] = index.add();
-        }
-        last
-    }
 }
 
 // The bucket of a piece.
@@ -158,17 +144,6 @@ impl<'a> Index<'a> {
             head: [None; 256],
             next: [None; 256],
         }
-    }
-
-    // All of the places are chained.
-    pub fn of(held: Section<'a>) -> Index<'a>
-        ensures { (result.held ≡ held.entry) × (result.chained ≡ held.entry.count) }
-    {
-        let mut index = Index::new(held);
-        for i in 0..held.count {
-            index.chain(bucket(held.place(i).piece));
-        }
-        index
     }
 
     // Chains the next place, whose bucket is b.
@@ -218,5 +193,29 @@ impl<'a> Index<'a> {
         }
         let i = at?;
         self.held.last_of(piece, usize::from(i) + 1)
+    }
+}
+
+// A held section whose places are all chained, with the last place before each of its piece.
+#[derive(Clone, Copy)]
+pub struct Linked<'a> {
+    pub index: Index<'a>,
+    pub last: [Option<u8>; 256],
+    pub ghost chained: { index.chained ≡ index.held.count },
+    pub ghost lasts: { Lasts last index.held.bytes.now index.held.count } by { Lasts-prop last index.held.bytes.now index.held.count },
+}
+
+impl<'a> Linked<'a> {
+    // In one pass: a place goes back along its bucket, so the time grows with the count alone unless many transactions share a bucket.
+    #[tactic(auto, using(crate::proofs::Chains::lasts_none))]
+    pub fn new(held: Section<'a>) -> Linked<'a>
+        ensures { result.index.held ≡ held.entry }
+    {
+        let mut last = [None; 256];
+        let mut index = Index::new(held);
+        for i in 0..held.count {
+            last[i] = index.add();
+        }
+        Linked { index, last }
     }
 }

@@ -1,9 +1,9 @@
--- `lasts` answers, for each place, the last one before it of its stream and transaction. Assumes nothing.
+-- `new` answers, for each place, the last one before it of its piece. Assumes nothing.
 use native.Mathlib.Omega.{arith}
 use borrow.Author.Rules.{rules}
 use lib.ListN.{length-set}
 use Rattle.lookback.proofs.Chains.{lasts_more}
-use Rattle.lookback.proofs.Section.lasts.Goals as goal
+use Rattle.lookback.proofs.Linked.new.Goals as goal
 
 pub loop-i-preserved : goal.loop-i-preserved
 loop-i-preserved c =
@@ -11,7 +11,7 @@ loop-i-preserved c =
     let v = l.invariant in
     record {
       size = simp length-set v.size;
-      found = lasts_more _ _ l.i _ v.size (omega (arith, c.args.self.few)) (rw (v.held, v.chained) at c.add.ensures.2) v.found;
+      found = lasts_more _ _ l.i _ v.size (omega (arith, c.args.held.few)) (rw (v.held, v.chained) at c.add.ensures.2) v.found;
       held = search rules;
       chained = search rules;
     }
