@@ -19,7 +19,7 @@ pub enum Verdict {
     Stay,
 }
 
-// A held section as an epoch is closed: its places are all chained, and `last` has the last one before each of its transaction.
+// A held section as an epoch is closed: its places are all chained, and `last` has the last one before each of its piece.
 #[derive(Drop)]
 struct Closing<'a> {
     index: Index<'a>,
@@ -119,7 +119,7 @@ impl<'a> Closing<'a> {
 
     // (Each table is filled in a pass of its own, so they are arrays side by side.)
 
-    // For each place the last one of its stream and transaction that is looked at.
+    // For each place the last one of its piece that is looked at.
     fn deciders(&self) -> [Option<u8>; 256]
         ensures { Deciders result self.now.index.held.bytes.now self.now.index.held.count self.now.epoch }
     {
