@@ -81,10 +81,11 @@ module _ (verdicts : List (Option Verdict)) (h : List ℕ) (s : ℕ) (sort : Sor
   pub at_none : (l r : List ℕ) (p : ℕ) → is_piece verdicts h s sort i ≡ false → Installed h (piece_at verdicts h s sort i) s l l r r p p
   at_none l r p w = rw w (installed_none h s l r p)
 
-  pub at_one : (l l' r r' : List ℕ) (p t : ℕ) → is_piece verdicts h s sort i ≡ true → t ≡ (item_at h i).entry.transaction → l' ≡ set (set l (p * 2) s) (p * 2 + 1) t
+  pub at_one : (l l' r r' : List ℕ) (p : ℕ) → is_piece verdicts h s sort i ≡ true → l' ≡ set (set l (p * 2) (item_at h i).stream) (p * 2 + 1) (item_at h i).entry.transaction
       → Changed r r' (item_at h i).stream (writes_before h i) → Installed h (piece_at verdicts h s sort i) s l l' r r' p (p + 1)
-  at_one l l' r r' p t w et el c =
-      rw w (installed_one h s l l' r r' p i (el ∙ rw et) (subst (λ u. Changed r r' u (writes_before h i)) (piece_stream verdicts h s i sort w) c))
+  at_one l l' r r' p w e c =
+      let z = piece_stream verdicts h s i sort w in
+      rw w (installed_one h s l l' r r' p i (rw z at e) (subst (λ u. Changed r r' u (writes_before h i)) z c))
 
   -- ---- a turn of `install_sort`
 

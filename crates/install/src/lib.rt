@@ -9,13 +9,13 @@ ghost use Rattle.verdicts.specs.Orderly.{Orderly};
 ghost use Rattle.install.specs.Writes.{Changed, write_of, writes_before};
 ghost use Rattle.install.specs.Order.{Nexts, First, StreamsBelow, Nexts-prop};
 
-use lookback::Section;
+use lookback::{Piece, Section};
 use model::Entry;
 use verdicts::Verdict;
 
 // ---- what is installed
 
-// For each place the next one of its stream and transaction.
+// For each place the next one of its piece. (`as u8` keeps the number: `u8::try_from` would have an `Err` that can't be.)
 fn nexts(held: Section<'_>, last: &[Option<u8>; 256]) -> [Option<u8>; 256]
     requires { Lasts last.now held.bytes.now held.count }
     ensures { Nexts result held.entry.bytes.now held.entry.count }
@@ -62,9 +62,9 @@ impl<'a> Snapshot<'a> {
         }
     }
 
-    // (A place's number is a plain number here, as in `lookback`, and records are a slice, as in `lot`, which have why.)
+    // (Records are a slice, as in `lot`, which has why.)
 
-    // The first place of the stream and transaction of place i.
+    // The first place of place i's piece.
     fn first_of(&self, i: usize) -> usize
         requires { i < self.now.held.count }
         ensures { First self.now.held.bytes.now i result }
@@ -82,14 +82,14 @@ impl<'a> Snapshot<'a> {
         requires { (length records.old ≡ 5120) × (i < self.now.held.count) }
         ensures { Changed records.old records.new (item_at self.now.held.bytes.now i).stream (write_of (item_at self.now.held.bytes.now i)) }
     {
-        let kind = self.held.kind(i);
-        if Entry::DELETE < kind {
+        let place = self.held.place(i);
+        if Entry::DELETE < place.kind {
             return;
         }
-        let fragment = usize::from(self.held.stream(i));
-        let key = usize::from(self.held.argument(i));
-        if kind == Entry::PUT {
-            lot::put_record(records, fragment, key, self.held.value(i));
+        let fragment = usize::from(place.piece.fragment);
+        let key = usize::from(place.argument);
+        if place.kind == Entry::PUT {
+            lot::put_record(records, fragment, key, place.value);
         } else {
             lot::delete_record(records, fragment, key);
         }
@@ -114,7 +114,7 @@ impl<'a> Snapshot<'a> {
         ensures { StreamsBelow self.now.held.bytes.now self.now.held.count (fragment + 1) result }
     {
         for i in start..self.held.count {
-            if self.held.stream(i) != fragment {
+            if self.held.place(i).piece.fragment != fragment {
                 return i;
             }
         }
@@ -170,15 +170,15 @@ impl<'o> Output<'o> {
     ghost use Rattle.install.specs.Stream.{Same};
 
     // Lists a piece after the others.
-    fn list_piece(&mut self, fragment: u8, transaction: u32)
+    fn list_piece(&mut self, piece: Piece)
         requires { (self.old.pieces < 256) × (512 ≤ length self.old.list.now) }
         ensures same { Same self.old self.new }
-        ensures listed { self.new.list.now ≡ set (set self.old.list.now (self.old.pieces * 2) fragment) (self.old.pieces * 2 + 1) transaction }
+        ensures listed { self.new.list.now ≡ set (set self.old.list.now (self.old.pieces * 2) piece.fragment) (self.old.pieces * 2 + 1) piece.transaction }
         ensures counted { self.new.pieces ≡ self.old.pieces + 1 }
         ensures records { self.new.records.now ≡ self.old.records.now }
     {
-        self.list[self.pieces * 2] = u32::from(fragment);
-        self.list[self.pieces * 2 + 1] = transaction;
+        self.list[self.pieces * 2] = u32::from(piece.fragment);
+        self.list[self.pieces * 2 + 1] = piece.transaction;
         self.pieces += 1;
     }
 }
@@ -207,7 +207,7 @@ impl Sort {
     }
 }
 
-// The places of a stream: those from `start` to `end`.
+// The places of a stream, which `fragment` names to the clauses: those from `start` to `end`.
 #[derive(Clone, Copy)]
 struct Stream<'s, 'a> {
     snapshot: &'s Snapshot<'a>,
@@ -227,7 +227,7 @@ impl<'s, 'a> Stream<'s, 'a> {
         requires { (self.now.start ≤ i) × (i < self.now.end) }
         ensures { result ≡ is_piece self.now.snapshot.now.verdicts.now self.now.snapshot.now.held.bytes.now self.now.fragment sort i }
     {
-        sort.picks(self.snapshot.verdicts[i], self.snapshot.held.kind(i))
+        sort.picks(self.snapshot.verdicts[i], self.snapshot.held.place(i).kind)
     }
 
     // Installs place i if it is a piece of this sort.
@@ -238,7 +238,7 @@ impl<'s, 'a> Stream<'s, 'a> {
         ensures installs { Installs self.now (piece_in self.now sort i) output.old output.new }
     {
         if self.is_piece(sort, i) {
-            output.list_piece(self.fragment, self.snapshot.held.transaction(i));
+            output.list_piece(self.snapshot.held.place(i).piece);
             self.snapshot.write_transaction(output.records, i);
         }
     }

@@ -10,14 +10,16 @@ use borrow.Author.Tests.{eq-eqb, ne_eqb, leb-true, leb-false, le-leb, lt-leb}
 use lib.Dec.{leb, eqb}
 use lib.ListN.{length, get_or, set, replicate, get_or-replicate, length-set}
 use lib.Seq.{get_or-set_same, get_or-set_other}
-use Rattle.std.specs.Prelude.{Option, Some, None, if◌then◌else◌}
+use Rattle.std.specs.Prelude.{Option, Some, None, MatchOption, if◌then◌else◌}
 use Rattle.model.proofs.Tests.{no_way, and_l, and_r}
 use Rattle.model.specs.Section.{item_at}
+use Rattle.lookback.specs.declared.Place.{Place}
+use Rattle.lookback.specs.Places.{place_of}
 use Rattle.lookback.specs.Last.{one_past, last_with, is_of, last_before, Lasts}
 use Rattle.lookback.proofs.Chains.{last_le, last_hit, last_miss, last_passes}
 use Rattle.verdicts.specs.Orderly.{Orderly}
 use Rattle.verdicts.specs.declared.Verdict.{Verdict}
-use Rattle.verdicts.specs.Verdicts.{verdict_at, verdict_of, answer_at, looked_at, decider_at, Deciders, decider_of, Known, decides, decided_by}
+use Rattle.verdicts.specs.Verdicts.{verdict_at, verdict_of, answer_at, looked_at, decider_at, Deciders, decider_of, Known, place_at, decides, decided_by}
 use Rattle.verdicts.proofs.ByLast.{own, verdict_by}
 
 pub last_reaches : (p : ℕ → Bool) (n a : ℕ) → a < n → p a ≡ true → suc a ≤ last_with p n
@@ -37,6 +39,12 @@ above j x = if leb x j then 0 else x
 pub no_place : (o : Option ℕ) → ((i : ℕ) → o ≡ Some i → ⊥) → one_past o ≡ 0
 no_place None f = refl
 no_place (Some i) f = absurd (f i refl)
+
+-- a test of the place that looking back answers
+pub tested : (P : Place → Type 0) (h : List ℕ) (f : ℕ → Bool) (r : Bool) (m : ℕ) → f 0 ≡ false → ((i : ℕ) → P (place_of (item_at h i)) → r ≡ f (suc i)) → MatchOption (place_at h m) (r ≡ false) P → r ≡ f m
+unfolding place_at
+tested P h f r zero z s e = e ∙ sym z
+tested P h f r (suc i) z s e = s i e
 
 -- what is found for a place, handed to the one before it of its transaction
 abbrev pub handed : Option ℕ → Option ℕ → List (Option ℕ) → List (Option ℕ)

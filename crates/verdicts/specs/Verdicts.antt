@@ -5,6 +5,8 @@ use Rattle.model.specs.Account.{Held, coordinator}
 use Rattle.model.specs.Closing.{upto, Verdict as ModelVerdict, free, install, flag, stay, verdict, committed}
 use Rattle.model.specs.Decoding.{mine}
 use Rattle.model.specs.Section.{item_at, items}
+use Rattle.lookback.specs.declared.Place.{Place}
+use Rattle.lookback.specs.Places.{place_of}
 use Rattle.lookback.specs.Last.{one_past, last_with, is_of, last_before}
 use Rattle.verdicts.specs.declared.Verdict.{Verdict}
 use Rattle.verdicts.specs.declared.Verdict.TheVariants.{Free, Install, Flag, Stay}
@@ -55,6 +57,11 @@ pub record Known (h : List ℕ) (decider : List (Option ℕ)) (answers : List (O
   pub within : i < n
   pub deciders : Deciders decider h n e
   pub known : (j : ℕ) → i < j → j < n → get_or answers j None ≡ answer_at h n e j
+
+-- the place that looking back answers
+unfoldable pub place_at : List ℕ → ℕ → Option Place
+place_at h zero = None
+place_at h (suc i) = Some (place_of (item_at h i))
 
 -- stream s has CC(t), by its last place
 unfoldable pub commits_at : List ℕ → ℕ → ℕ → Bool

@@ -7,7 +7,7 @@ ghost use Rattle.model.specs.Section.{item_at};
 ghost use Rattle.lookback.specs.Last.{one_past, Lasts, Lasts-prop};
 ghost use Rattle.verdicts.specs.Orderly.{Orderly};
 
-use lookback::{Index, Section};
+use lookback::{Index, Piece, Place, Section};
 use model::Entry;
 
 // A transaction's entries are freed, installed and freed, installed with its P flagged, or stay.
@@ -19,7 +19,7 @@ pub enum Verdict {
     Stay,
 }
 
-// A held section as an epoch is closed: its places are all chained, and `last` has the last one before each of its transaction.
+// A held section as an epoch is closed: its places are all chained, and `last` has the last one before each of its piece.
 #[derive(Drop)]
 struct Closing<'a> {
     index: Index<'a>,
@@ -31,53 +31,62 @@ struct Closing<'a> {
 }
 
 impl<'a> Closing<'a> {
-    ghost use Rattle.verdicts.specs.Verdicts.{verdict_of, answer_at, Deciders, decider_of, Known, commits_at, decides, flagged_at, to_flag, decided_by};
+    ghost use Rattle.model.specs.Entry.{P};
+    ghost use Rattle.lookback.specs.Places.{held_at};
+    ghost use Rattle.verdicts.specs.Verdicts.{verdict_of, answer_at, Deciders, decider_of, Known, place_at, commits_at, decides, flagged_at, to_flag, decided_by};
 
     // ---- what the last place of a transaction decides
 
-    // The entry at an answer of looking back is flagged.
+    // The place that looking back answers.
+    #[tactic(auto, unfolding(crate::specs::Verdicts::place_at))]
+    fn place_at(&self, last: Option<u8>) -> Option<Place>
+        requires { one_past last ≤ self.now.index.held.count }
+        ensures { result ≡ place_at self.now.index.held.bytes.now (one_past last) }
+    {
+        let i = usize::from(last?);
+        Some(self.index.held.place(i))
+    }
+
+    // The entry there is flagged.
     #[tactic(auto, unfolding(crate::specs::Verdicts::flagged_at))]
     fn flagged_at(&self, last: Option<u8>) -> bool
         requires { one_past last ≤ self.now.index.held.count }
         ensures { result ≡ flagged_at self.now.index.held.bytes.now (one_past last) }
     {
-        // `is_some_and` was tried here and below: the proof did not close.
-        match last {
-            Some(i) => self.index.held.flagged(usize::from(i)),
-            None => false,
-        }
+        self.place_at(last).is_some_and(|place| place.flagged)
     }
 
-    // The entry at an answer of looking back is a CC of an epoch up to this one.
+    // The entry there is a CC of an epoch up to this one.
     #[tactic(auto, unfolding(crate::specs::Verdicts::commits_at))]
     fn commits_at(&self, last: Option<u8>) -> bool
         requires { one_past last ≤ self.now.index.held.count }
         ensures { result ≡ commits_at self.now.index.held.bytes.now self.now.epoch (one_past last) }
     {
-        let held = self.index.held;
-        match last.map(usize::from) {
-            Some(i) => held.kind(i) == Entry::CC && held.epoch(i) <= self.epoch,
-            None => false,
-        }
+        let epoch = self.epoch;
+        self.place_at(last)
+            .is_some_and(|place| place.kind == Entry::CC && place.epoch <= epoch)
     }
 
     // A stream has the transaction's CC, in an epoch up to this one.
-    fn decides(&self, fragment: u8, transaction: u32) -> bool
-        ensures { result ≡ decides self.now.index.held.bytes.now self.now.index.held.count self.now.epoch fragment transaction }
+    fn decides(&self, piece: Piece) -> bool
+        ensures { result ≡ decides self.now.index.held.bytes.now self.now.index.held.count self.now.epoch piece.fragment piece.transaction }
     {
-        self.commits_at(self.index.last_of(fragment, transaction))
+        self.commits_at(self.index.last_of(piece))
     }
 
-    // Place i is a P that is to be flagged: it is not flagged yet, and its coordinator's stream has the CC.
+    // A place is of a P that is to be flagged: it is not flagged yet, and its coordinator's stream has the CC.
+    // (`as u8` keeps the number here and below: `u8::try_from` would have an `Err` that can't be.)
     #[tactic(auto, unfolding(crate::specs::Verdicts::to_flag))]
-    fn to_flag(&self, i: usize) -> bool
-        requires { i < self.now.index.held.count }
-        ensures { result ≡ to_flag (decides self.now.index.held.bytes.now self.now.index.held.count self.now.epoch) (item_at self.now.index.held.bytes.now i).entry }
+    fn to_flag(&self, place: Place) -> bool
+        requires { place.kind ≡ P → place.argument < 8 }
+        ensures { result ≡ to_flag (decides self.now.index.held.bytes.now self.now.index.held.count self.now.epoch) (held_at place) }
     {
-        let held = self.index.held;
-        held.kind(i) == Entry::P
-            && !held.flagged(i)
-            && self.decides(held.argument(i) as u8, held.transaction(i))
+        place.kind == Entry::P
+            && !place.flagged
+            && self.decides(Piece {
+                fragment: place.argument as u8,
+                transaction: place.piece.transaction,
+            })
     }
 
     // The verdict that place i decides.
@@ -86,12 +95,13 @@ impl<'a> Closing<'a> {
         requires { i < self.now.index.held.count }
         ensures { result ≡ verdict_of (decided_by (decides self.now.index.held.bytes.now self.now.index.held.count self.now.epoch) self.now.index.held.bytes.now i) }
     {
-        match self.index.held.kind(i) {
+        let place = self.index.held.place(i);
+        match place.kind {
             Entry::A => Verdict::Free,
             Entry::CC => Verdict::Install,
             Entry::CP if self.flagged_at(self.last[i]) => Verdict::Free,
             Entry::CP => Verdict::Install,
-            _ if self.to_flag(i) => Verdict::Flag,
+            _ if self.to_flag(place) => Verdict::Flag,
             _ => Verdict::Stay,
         }
     }
@@ -104,12 +114,12 @@ impl<'a> Closing<'a> {
         requires { i < self.now.index.held.count }
         ensures { one_past result ≡ decider_of self.now.index.held.bytes.now self.now.epoch (one_past found) (i + 1) }
     {
-        found.or((self.index.held.epoch(i) <= self.epoch).then_some(i as u8))
+        found.or((self.index.held.place(i).epoch <= self.epoch).then_some(i as u8))
     }
 
-    // (One table a question, each by place and filled in a pass of its own; a place's number is a plain number, as in `lookback`.)
+    // (Each table is filled in a pass of its own, so they are arrays side by side.)
 
-    // For each place the last one of its stream and transaction that is looked at.
+    // For each place the last one of its piece that is looked at.
     fn deciders(&self) -> [Option<u8>; 256]
         ensures { Deciders result self.now.index.held.bytes.now self.now.index.held.count self.now.epoch }
     {
@@ -136,14 +146,15 @@ impl<'a> Closing<'a> {
         requires { Known self.now.index.held.bytes.now decider.now answers.now self.now.index.held.count self.now.epoch i }
         ensures { result ≡ answer_at self.now.index.held.bytes.now self.now.index.held.count self.now.epoch i }
     {
-        if self.epoch < self.index.held.epoch(i) {
+        if self.epoch < self.index.held.place(i).epoch {
             return None;
         }
         let decides = usize::from(decider[i]?);
         if decides == i {
-            return Some(self.decided_by(i));
+            Some(self.decided_by(i))
+        } else {
+            answers[decides]
         }
-        answers[decides]
     }
 }
 

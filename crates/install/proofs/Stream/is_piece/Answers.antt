@@ -14,4 +14,4 @@ returns c =
     let low = s.begins.rest i (omega arith) (omega (arith, s.ends.low)) in
     let high = s.ends.these i (omega arith) in
     let same : (item_at s.snapshot.now.held.bytes.now i).stream ≡ s.fragment = omega arith in
-    rw (eq-eqb (item_at s.snapshot.now.held.bytes.now i).stream s.fragment same) (rw c.kind.ensures at c.picks.ensures)
+    rw (eq-eqb (item_at s.snapshot.now.held.bytes.now i).stream s.fragment same) (rw c.place.ensures at c.picks.ensures)

@@ -23,10 +23,10 @@ pub returns-in-5 : goal.returns-in-5
 unfolding Lasts
 returns-in-5 c =
     let s = c.args.self.now in
-    by_CP _ _ _ (sym c.kind.ensures ∙ c.in-5.is) true (ap (flagged_at s.index.held.bytes.now) (sym (s.lasts c.args.i c.requires)) ∙ sym c.flagged_at.ensures ∙ c.if-flagged_at.true)
+    by_CP _ _ _ (sym (ap (λ p. p.kind) c.place-place.ensures) ∙ c.in-5.is) true (ap (flagged_at s.index.held.bytes.now) (sym (s.lasts c.args.i c.requires)) ∙ sym c.flagged_at.ensures ∙ c.if-flagged_at.true)
 
 pub returns-in-5-2 : goal.returns-in-5-2
 unfolding Lasts
 returns-in-5-2 c =
     let s = c.args.self.now in
-    by_CP _ _ _ (sym c.kind.ensures ∙ c.in-5.is) false (ap (flagged_at s.index.held.bytes.now) (sym (s.lasts c.args.i c.requires)) ∙ sym c.flagged_at.ensures ∙ c.if-flagged_at.false)
+    by_CP _ _ _ (sym (ap (λ p. p.kind) c.place-place.ensures) ∙ c.in-5.is) false (ap (flagged_at s.index.held.bytes.now) (sym (s.lasts c.args.i c.requires)) ∙ sym c.flagged_at.ensures ∙ c.if-flagged_at.false)

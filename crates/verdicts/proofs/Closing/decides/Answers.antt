@@ -10,7 +10,7 @@ pub commits_at-requires : goal.commits_at-requires
 commits_at-requires c =
     let a = c.args in
     let s = a.self.now in
-    omega (arith, c.last_of.ensures, s.chained, last_le (is_of s.index.held.bytes.now a.fragment a.transaction) s.index.chained)
+    omega (arith, c.last_of.ensures, s.chained, last_le (is_of s.index.held.bytes.now a.piece.fragment a.piece.transaction) s.index.chained)
 
 pub returns : goal.returns
 unfolding decides
