@@ -9,7 +9,7 @@ ghost use Rattle.epoch.specs.Missing.{missing_in, MissingMarks};
 ghost use Rattle.epoch.specs.Closed.{Closable, Installed};
 
 use install::Snapshot;
-use lookback::Section;
+use lookback::{Linked, Section};
 use verdicts::Verdict;
 
 // (Each of these three asks that there is an epoch after the closed one: a number with that invariant would be proved where a look
@@ -83,9 +83,9 @@ pub fn install_pieces(
     requires { Closable held.bytes.now records.old list.old fragments held.count closed }
     ensures { Installed fragments closed held.entry.count held.entry.bytes.now records.old records.new list.old list.new result.pieces result.verdicts }
 {
-    let last = held.lasts();
-    let verdicts = verdicts::verdicts(held, &last, closed + 1);
-    let pieces = Snapshot::new(held, &last, &verdicts).install_all(records, list, fragments);
+    let linked = Linked::new(held);
+    let verdicts = verdicts::verdicts(&linked, closed + 1);
+    let pieces = Snapshot::new(held, &linked.last, &verdicts).install_all(records, list, fragments);
     Applied {
         pieces: pieces as u32,
         verdicts,

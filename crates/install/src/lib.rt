@@ -33,8 +33,8 @@ fn nexts(held: Section<'_>, last: &[Option<u8>; 256]) -> [Option<u8>; 256]
 
 // The places as they stood when the call began, with a verdict on each, and chained by transaction in both directions.
 #[derive(Clone, Copy)]
-pub struct Snapshot<'a> {
-    pub held: Section<'a>,
+pub struct Snapshot<'a, 'h> {
+    pub held: Section<'h>,
     last: &'a [Option<u8>; 256],
     next: [Option<u8>; 256],
     pub verdicts: &'a [Option<Verdict>; 256],
@@ -43,14 +43,14 @@ pub struct Snapshot<'a> {
     ghost nexts: { Nexts next held.bytes.now held.count } by { Nexts-prop next held.bytes.now held.count },
 }
 
-impl<'a> Snapshot<'a> {
+impl<'a, 'h> Snapshot<'a, 'h> {
     ghost use Rattle.install.specs.Pieces.{count_of, InstalledAll};
 
     pub fn new(
-        held: Section<'a>,
+        held: Section<'h>,
         last: &'a [Option<u8>; 256],
         verdicts: &'a [Option<Verdict>; 256],
-    ) -> Snapshot<'a>
+    ) -> Snapshot<'a, 'h>
         requires { Orderly held.bytes.now held.count × Lasts last.now held.bytes.now held.count }
         ensures { (result.held ≡ held.entry) × (result.verdicts.now ≡ verdicts.now) }
     {
@@ -122,7 +122,7 @@ impl<'a> Snapshot<'a> {
     }
 
     // The places of a stream, which begin at `start`.
-    fn stream<'s>(&'s self, fragment: u8, start: usize) -> Stream<'s, 'a>
+    fn stream<'s>(&'s self, fragment: u8, start: usize) -> Stream<'s, 'a, 'h>
         requires { StreamsBelow self.now.held.bytes.now self.now.held.count fragment start }
         ensures { (result.snapshot.now ≡ self.now) × (result.fragment ≡ fragment) }
     {
@@ -209,8 +209,8 @@ impl Sort {
 
 // The places of a stream, which `fragment` names to the clauses: those from `start` to `end`.
 #[derive(Clone, Copy)]
-struct Stream<'s, 'a> {
-    snapshot: &'s Snapshot<'a>,
+struct Stream<'s, 'a, 'h> {
+    snapshot: &'s Snapshot<'a, 'h>,
     fragment: u8,
     start: usize,
     end: usize,
@@ -218,7 +218,7 @@ struct Stream<'s, 'a> {
     ghost ends: { StreamsBelow snapshot.now.held.bytes.now snapshot.now.held.count (fragment + 1) end },
 }
 
-impl<'s, 'a> Stream<'s, 'a> {
+impl<'s, 'a, 'h> Stream<'s, 'a, 'h> {
     ghost use Rattle.install.specs.Pieces.{is_piece};
     ghost use Rattle.install.specs.Stream.{piece_in, sort_in, pieces_in, Room, Same, Installs};
 

@@ -1,5 +1,5 @@
 -- The verdict on the transaction of each place of a held section, and the place that decides it: the last one looked at.
-use Rattle.std.specs.Prelude.{Option, Some, None, ℕ, zero, suc, ◌-◌, ◌<◌, ◌≡◌, Bool, true, false, not, ◌&&◌, List, leb, eqb, get_or, if◌then◌else◌}
+use Rattle.std.specs.Prelude.{Option, Some, None, ℕ, zero, suc, ◌<◌, ◌≡◌, Bool, false, not, ◌&&◌, List, leb, eqb, get_or, if◌then◌else◌}
 use Rattle.model.specs.Entry.{P, CC, CP, A}
 use Rattle.model.specs.Account.{Held, coordinator}
 use Rattle.model.specs.Closing.{upto, Verdict as ModelVerdict, free, install, flag, stay, verdict, committed}
@@ -7,7 +7,7 @@ use Rattle.model.specs.Decoding.{mine}
 use Rattle.model.specs.Section.{item_at, items}
 use Rattle.lookback.specs.declared.Place.{Place}
 use Rattle.lookback.specs.Places.{place_of}
-use Rattle.lookback.specs.Last.{one_past, last_with, is_of, last_before}
+use Rattle.lookback.specs.Last.{last_with, is_of, last_before}
 use Rattle.verdicts.specs.declared.Verdict.{Verdict}
 use Rattle.verdicts.specs.declared.Verdict.TheVariants.{Free, Install, Flag, Stay}
 
@@ -44,20 +44,6 @@ looked_at h e s t i = is_of h s t i && leb (item_at h i).entry.epoch e
 abbrev pub decider_at : List ℕ → ℕ → ℕ → ℕ → ℕ
 decider_at h n e i = last_with (looked_at h e (item_at h i).stream (item_at h i).entry.transaction) n
 
--- `decider` holds it for each of the n places that is looked at
-unfoldable pub Deciders : List (Option ℕ) → List ℕ → ℕ → ℕ → Type 0
-Deciders decider h n e = (i : ℕ) → i < n → leb (item_at h i).entry.epoch e ≡ true → one_past (get_or decider i None) ≡ decider_at h n e i
-
--- going back over the places, at the one before m: what was found after it, or itself if it is looked at
-unfoldable pub decider_of : List ℕ → ℕ → ℕ → ℕ → ℕ
-decider_of h e found m = if eqb found 0 then (if leb (item_at h (m - 1)).entry.epoch e then m else 0) else found
-
--- what the verdict of place i asks for: those after it are known
-pub record Known (h : List ℕ) (decider : List (Option ℕ)) (answers : List (Option Verdict)) (n e i : ℕ) : Type 0 where
-  pub within : i < n
-  pub deciders : Deciders decider h n e
-  pub known : (j : ℕ) → i < j → j < n → get_or answers j None ≡ answer_at h n e j
-
 -- the place that looking back answers
 unfoldable pub place_at : List ℕ → ℕ → Option Place
 place_at h zero = None
@@ -89,3 +75,8 @@ decided_by d h i =
     else if eqb x.kind CP then if flagged_at h (last_before h i) then free else install
     else if to_flag d x then flag
     else stay
+
+-- going back over the places: what place i is answered, where this verdict is found for it at those after it
+unfoldable pub answer_from : List ℕ → ℕ → ℕ → Option Verdict → ℕ → Option Verdict
+answer_from h n e (Some v) i = Some v
+answer_from h n e None i = if leb (item_at h i).entry.epoch e then Some (verdict_of (decided_by (decides h n e) h i)) else None

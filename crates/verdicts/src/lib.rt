@@ -4,10 +4,10 @@
 
 ghost use Rattle.std.specs.Prelude.{◌≡◌, ◌+◌, ◌≤◌, ◌<◌};
 ghost use Rattle.model.specs.Section.{item_at};
-ghost use Rattle.lookback.specs.Last.{one_past, Lasts, Lasts-prop};
+ghost use Rattle.lookback.specs.Last.{one_past};
 ghost use Rattle.verdicts.specs.Orderly.{Orderly};
 
-use lookback::{Index, Piece, Place, Section};
+use lookback::{Linked, Piece, Place};
 use model::Entry;
 
 // A transaction's entries are freed, installed and freed, installed with its P flagged, or stay.
@@ -19,39 +19,36 @@ pub enum Verdict {
     Stay,
 }
 
-// A held section as an epoch is closed: its places are all chained, and `last` has the last one before each of its piece.
+// A held section as an epoch is closed.
 #[derive(Drop)]
 struct Closing<'a> {
-    index: Index<'a>,
-    last: &'a [Option<u8>; 256],
+    linked: &'a Linked<'a>,
     epoch: u32,
-    ghost chained: { index.chained ≡ index.held.count },
-    ghost orderly: { Orderly index.held.bytes.now index.held.count },
-    ghost lasts: { Lasts last.now index.held.bytes.now index.held.count } by { Lasts-prop last.now index.held.bytes.now index.held.count },
+    ghost orderly: { Orderly linked.now.index.held.bytes.now linked.now.index.held.count },
 }
 
 impl<'a> Closing<'a> {
     ghost use Rattle.model.specs.Entry.{P};
     ghost use Rattle.lookback.specs.Places.{held_at};
-    ghost use Rattle.verdicts.specs.Verdicts.{verdict_of, answer_at, Deciders, decider_of, Known, place_at, commits_at, decides, flagged_at, to_flag, decided_by};
+    ghost use Rattle.verdicts.specs.Verdicts.{verdict_of, answer_from, place_at, commits_at, decides, flagged_at, to_flag, decided_by};
 
     // ---- what the last place of a transaction decides
 
     // The place that looking back answers.
     #[tactic(auto, unfolding(crate::specs::Verdicts::place_at))]
     fn place_at(&self, last: Option<u8>) -> Option<Place>
-        requires { one_past last ≤ self.now.index.held.count }
-        ensures { result ≡ place_at self.now.index.held.bytes.now (one_past last) }
+        requires { one_past last ≤ self.now.linked.now.index.held.count }
+        ensures { result ≡ place_at self.now.linked.now.index.held.bytes.now (one_past last) }
     {
         let i = usize::from(last?);
-        Some(self.index.held.place(i))
+        Some(self.linked.index.held.place(i))
     }
 
     // The entry there is flagged.
     #[tactic(auto, unfolding(crate::specs::Verdicts::flagged_at))]
     fn flagged_at(&self, last: Option<u8>) -> bool
-        requires { one_past last ≤ self.now.index.held.count }
-        ensures { result ≡ flagged_at self.now.index.held.bytes.now (one_past last) }
+        requires { one_past last ≤ self.now.linked.now.index.held.count }
+        ensures { result ≡ flagged_at self.now.linked.now.index.held.bytes.now (one_past last) }
     {
         self.place_at(last).is_some_and(|place| place.flagged)
     }
@@ -59,8 +56,8 @@ impl<'a> Closing<'a> {
     // The entry there is a CC of an epoch up to this one.
     #[tactic(auto, unfolding(crate::specs::Verdicts::commits_at))]
     fn commits_at(&self, last: Option<u8>) -> bool
-        requires { one_past last ≤ self.now.index.held.count }
-        ensures { result ≡ commits_at self.now.index.held.bytes.now self.now.epoch (one_past last) }
+        requires { one_past last ≤ self.now.linked.now.index.held.count }
+        ensures { result ≡ commits_at self.now.linked.now.index.held.bytes.now self.now.epoch (one_past last) }
     {
         let epoch = self.epoch;
         self.place_at(last)
@@ -69,9 +66,9 @@ impl<'a> Closing<'a> {
 
     // A stream has the transaction's CC, in an epoch up to this one.
     fn decides(&self, piece: Piece) -> bool
-        ensures { result ≡ decides self.now.index.held.bytes.now self.now.index.held.count self.now.epoch piece.fragment piece.transaction }
+        ensures { result ≡ decides self.now.linked.now.index.held.bytes.now self.now.linked.now.index.held.count self.now.epoch piece.fragment piece.transaction }
     {
-        self.commits_at(self.index.last_of(piece))
+        self.commits_at(self.linked.index.last_of(piece))
     }
 
     // A place is of a P that is to be flagged: it is not flagged yet, and its coordinator's stream has the CC.
@@ -79,7 +76,7 @@ impl<'a> Closing<'a> {
     #[tactic(auto, unfolding(crate::specs::Verdicts::to_flag))]
     fn to_flag(&self, place: Place) -> bool
         requires { place.kind ≡ P → place.argument < 8 }
-        ensures { result ≡ to_flag (decides self.now.index.held.bytes.now self.now.index.held.count self.now.epoch) (held_at place) }
+        ensures { result ≡ to_flag (decides self.now.linked.now.index.held.bytes.now self.now.linked.now.index.held.count self.now.epoch) (held_at place) }
     {
         place.kind == Entry::P
             && !place.flagged
@@ -92,88 +89,52 @@ impl<'a> Closing<'a> {
     // The verdict that place i decides.
     #[tactic(auto, unfolding(crate::specs::Verdicts::decided_by))]
     fn decided_by(&self, i: usize) -> Verdict
-        requires { i < self.now.index.held.count }
-        ensures { result ≡ verdict_of (decided_by (decides self.now.index.held.bytes.now self.now.index.held.count self.now.epoch) self.now.index.held.bytes.now i) }
+        requires { i < self.now.linked.now.index.held.count }
+        ensures { result ≡ verdict_of (decided_by (decides self.now.linked.now.index.held.bytes.now self.now.linked.now.index.held.count self.now.epoch) self.now.linked.now.index.held.bytes.now i) }
     {
-        let place = self.index.held.place(i);
+        let place = self.linked.index.held.place(i);
         match place.kind {
             Entry::A => Verdict::Free,
             Entry::CC => Verdict::Install,
-            Entry::CP if self.flagged_at(self.last[i]) => Verdict::Free,
+            Entry::CP if self.flagged_at(self.linked.last[i]) => Verdict::Free,
             Entry::CP => Verdict::Install,
             _ if self.to_flag(place) => Verdict::Flag,
             _ => Verdict::Stay,
         }
     }
 
-    // ---- the place that decides
-
-    // Going back over the places, at place i: what was found for it after it, or itself if it is looked at.
-    #[tactic(auto, unfolding(crate::specs::Verdicts::decider_of))]
-    fn decider_of(&self, found: Option<u8>, i: usize) -> Option<u8>
-        requires { i < self.now.index.held.count }
-        ensures { one_past result ≡ decider_of self.now.index.held.bytes.now self.now.epoch (one_past found) (i + 1) }
+    // Going back over the places, what place i is answered, where `found` is the verdict found for it at those after it: where none is
+    // found, place i decides if it is looked at.
+    #[tactic(auto, unfolding(crate::specs::Verdicts::answer_from))]
+    fn answer_from(&self, found: Option<Verdict>, i: usize) -> Option<Verdict>
+        requires { i < self.now.linked.now.index.held.count }
+        ensures { result ≡ answer_from self.now.linked.now.index.held.bytes.now self.now.linked.now.index.held.count self.now.epoch found i }
     {
-        found.or((self.index.held.place(i).epoch <= self.epoch).then_some(i as u8))
-    }
-
-    // (Each table is filled in a pass of its own, so they are arrays side by side.)
-
-    // For each place the last one of its piece that is looked at.
-    fn deciders(&self) -> [Option<u8>; 256]
-        ensures { Deciders result self.now.index.held.bytes.now self.now.index.held.count self.now.epoch }
-    {
-        let mut decider = [None; 256];
-        for i in (0..self.index.held.count).rev() {
-            let found = self.decider_of(decider[i], i);
-            decider[i] = found;
-            if let Some(before) = self.last[i] {
-                decider[usize::from(before)] = found;
-            }
-        }
-        decider
-    }
-
-    // ---- all verdicts
-
-    // The verdict of place i, those of the places after it being known; none of a later epoch, which is not looked at.
-    fn answer_at(
-        &self,
-        decider: &[Option<u8>; 256],
-        answers: &[Option<Verdict>; 256],
-        i: usize,
-    ) -> Option<Verdict>
-        requires { Known self.now.index.held.bytes.now decider.now answers.now self.now.index.held.count self.now.epoch i }
-        ensures { result ≡ answer_at self.now.index.held.bytes.now self.now.index.held.count self.now.epoch i }
-    {
-        if self.epoch < self.index.held.place(i).epoch {
-            return None;
-        }
-        let decides = usize::from(decider[i]?);
-        if decides == i {
+        if found.is_none() && self.linked.index.held.place(i).epoch <= self.epoch {
             Some(self.decided_by(i))
         } else {
-            answers[decides]
+            found
         }
     }
 }
 
 ghost use Rattle.verdicts.specs.Verdicts.{Verdicts};
 
-// The verdicts of the places, in two passes back over them; a coordinator's CC is looked for along the chains.
-pub fn verdicts(held: Section, last: &[Option<u8>; 256], epoch: u32) -> [Option<Verdict>; 256]
-    requires { Orderly held.bytes.now held.count × Lasts last.now held.bytes.now held.count }
-    ensures { Verdicts result held.entry.bytes.now held.entry.count epoch }
+// The verdict on each place, and none on one of a later epoch, which is not looked at. In one pass back over the places: the last one of a
+// piece that is looked at decides, and each hands its verdict to the one before it of its piece. A coordinator's CC is looked for along the
+// chains.
+pub fn verdicts(linked: &Linked<'_>, epoch: u32) -> [Option<Verdict>; 256]
+    requires { Orderly linked.now.index.held.bytes.now linked.now.index.held.count }
+    ensures { Verdicts result linked.now.index.held.bytes.now linked.now.index.held.count epoch }
 {
-    let closing = Closing {
-        index: Index::of(held),
-        last,
-        epoch,
-    };
-    let decider = closing.deciders();
+    let closing = Closing { linked, epoch };
     let mut answers = [None; 256];
-    for i in (0..held.count).rev() {
-        answers[i] = closing.answer_at(&decider, &answers, i);
+    for i in (0..linked.index.held.count).rev() {
+        let answer = closing.answer_from(answers[i], i);
+        answers[i] = answer;
+        if let Some(before) = linked.last[i] {
+            answers[usize::from(before)] = answer;
+        }
     }
     answers
 }

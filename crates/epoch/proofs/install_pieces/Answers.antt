@@ -5,10 +5,10 @@ use Rattle.epoch.proofs.Closing.{in_order_law, few, installed}
 use Rattle.epoch.proofs.install_pieces.Goals as goal
 
 pub verdicts-verdicts-requires : goal.verdicts-verdicts-requires
-verdicts-verdicts-requires c = (in_order_law c.requires.fits, c.lasts-last.ensures)
+verdicts-verdicts-requires c = rw c.new-linked.ensures (in_order_law c.requires.fits)
 
 pub new-requires : goal.new-requires
-new-requires c = (in_order_law c.requires.fits, c.lasts-last.ensures)
+new-requires c = (in_order_law c.requires.fits, rw c.new-linked.ensures at c.new-linked.result.lasts)
 
 pub install_all-pieces-requires-clause-few : goal.install_all-pieces-requires-clause-few
 install_all-pieces-requires-clause-few c = rw (c.new.ensures.0, c.new.ensures.1) (few c.requires.fits c.verdicts-verdicts.result (omega arith))
@@ -20,5 +20,5 @@ overflow_cast-result c =
 
 pub returns : goal.returns
 returns c =
-    installed c.requires.fits c.verdicts-verdicts.result (rw (add-one c.args.closed) at c.verdicts-verdicts.ensures) c.requires.most c.requires.long
+    installed c.requires.fits c.verdicts-verdicts.result (rw (add-one c.args.closed, c.new-linked.ensures) at c.verdicts-verdicts.ensures) c.requires.most c.requires.long
     (rw (c.new.ensures.0, c.new.ensures.1) at c.install_all-pieces.ensures)

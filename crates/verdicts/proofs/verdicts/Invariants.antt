@@ -1,8 +1,6 @@
--- `verdicts` answers the verdict of each place. Assumes nothing.
-use mathlib.Core.Path.{◌≡◌}
-use lib.ListN.{length}
-use Rattle.verdicts.proofs.Backwards.{KnownFrom}
+-- `verdicts` answers the verdict on each place. Assumes nothing.
+use Rattle.verdicts.proofs.Backwards.{Found}
 use Rattle.verdicts.proofs.verdicts.Given as goal
 
 abbrev pub invariant-loop-i : goal.invariant-loop-i
-invariant-loop-i l = (length l.answers ≡ 256) × KnownFrom l.answers l.held.bytes.now l.held.count l.epoch l.i
+invariant-loop-i l = Found l.linked.index.held.bytes.now l.linked.index.held.count l.epoch l.answers l.i

@@ -9,5 +9,5 @@ pub returns : goal.returns
 unfolding commits_at
 returns c =
     let s = c.args.self.now in
-    let h = s.index.held.bytes.now in
+    let h = s.linked.now.index.held.bytes.now in
     tested _ h (commits_at h s.epoch) _ _ refl (λ i e. search rules) (rw c.place_at.ensures at c.is_some_and.ensures)

@@ -17,16 +17,16 @@ unfolding decided_by
 by_CP d h i k f e = rw (k, e)
 
 pub flagged_at-requires : goal.flagged_at-requires
-flagged_at-requires c = let s = c.args.self.now in omega (arith, lasts_low _ _ _ c.args.i s.lasts c.requires)
+flagged_at-requires c = let s = c.args.self.now in omega (arith, lasts_low _ _ _ c.args.i s.linked.now.lasts c.requires)
 
 pub returns-in-5 : goal.returns-in-5
 unfolding Lasts
 returns-in-5 c =
     let s = c.args.self.now in
-    by_CP _ _ _ (sym (ap (λ p. p.kind) c.place-place.ensures) ∙ c.in-5.is) true (ap (flagged_at s.index.held.bytes.now) (sym (s.lasts c.args.i c.requires)) ∙ sym c.flagged_at.ensures ∙ c.if-flagged_at.true)
+    by_CP _ _ _ (sym (ap (λ p. p.kind) c.place-place.ensures) ∙ c.in-5.is) true (ap (flagged_at s.linked.now.index.held.bytes.now) (sym (s.linked.now.lasts c.args.i c.requires)) ∙ sym c.flagged_at.ensures ∙ c.if-flagged_at.true)
 
 pub returns-in-5-2 : goal.returns-in-5-2
 unfolding Lasts
 returns-in-5-2 c =
     let s = c.args.self.now in
-    by_CP _ _ _ (sym (ap (λ p. p.kind) c.place-place.ensures) ∙ c.in-5.is) false (ap (flagged_at s.index.held.bytes.now) (sym (s.lasts c.args.i c.requires)) ∙ sym c.flagged_at.ensures ∙ c.if-flagged_at.false)
+    by_CP _ _ _ (sym (ap (λ p. p.kind) c.place-place.ensures) ∙ c.in-5.is) false (ap (flagged_at s.linked.now.index.held.bytes.now) (sym (s.linked.now.lasts c.args.i c.requires)) ∙ sym c.flagged_at.ensures ∙ c.if-flagged_at.false)

@@ -10,8 +10,8 @@ pub commits_at-requires : goal.commits_at-requires
 commits_at-requires c =
     let a = c.args in
     let s = a.self.now in
-    omega (arith, c.last_of.ensures, s.chained, last_le (is_of s.index.held.bytes.now a.piece.fragment a.piece.transaction) s.index.chained)
+    omega (arith, c.last_of.ensures, s.linked.now.chained, last_le (is_of s.linked.now.index.held.bytes.now a.piece.fragment a.piece.transaction) s.linked.now.index.chained)
 
 pub returns : goal.returns
 unfolding decides
-returns c = c.commits_at.ensures ∙ rw (c.last_of.ensures, c.args.self.now.chained)
+returns c = c.commits_at.ensures ∙ rw (c.last_of.ensures, c.args.self.now.linked.now.chained)

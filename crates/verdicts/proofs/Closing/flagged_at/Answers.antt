@@ -7,4 +7,4 @@ use Rattle.verdicts.proofs.Closing.flagged_at.Goals as goal
 
 pub returns : goal.returns
 unfolding flagged_at
-returns c = let h = c.args.self.now.index.held.bytes.now in tested _ h (flagged_at h) _ _ refl (λ i e. search rules) (rw c.place_at.ensures at c.is_some_and.ensures)
+returns c = let h = c.args.self.now.linked.now.index.held.bytes.now in tested _ h (flagged_at h) _ _ refl (λ i e. search rules) (rw c.place_at.ensures at c.is_some_and.ensures)
