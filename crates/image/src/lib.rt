@@ -25,7 +25,7 @@ fn write_record(bytes: &mut [u8], fragment: u8, key: u16, value: u32)
     requires { length bytes.old ≡ 8 }
     ensures { bytes.new ≡ record8 (record { fragment = fragment; key = key; value = value }) }
 {
-    wire::put(bytes, 0, fragment as u16);
+    wire::put(bytes, 0, u16::from(fragment));
     wire::put(bytes, 2, key);
     wire::put(bytes, 4, value);
 }
@@ -77,8 +77,8 @@ impl Saving<'_> {
         requires { (length records.now ≡ 5120) × (account.keys ≤ 128) × (account.fragments ≤ 8) × (self.old.end + 8192 ≤ length self.old.image.now) }
         ensures { Extends self.old self.new (record_bytes records.now account.keys account.fragments) × (self.new.end ≤ self.old.end + 8192) }
     {
-        for i in 0..account.fragments as usize {
-            self.fragment(records, i, account.keys as usize);
+        for i in 0..usize::from(account.fragments) {
+            self.fragment(records, i, usize::from(account.keys));
         }
     }
 
@@ -89,9 +89,9 @@ impl Saving<'_> {
     {
         let streams = &lot[lot::STREAMS];
         let places = &lot[lot::PLACES];
-        self.bytes(&streams[..account.fragments as usize * 8]);
+        self.bytes(&streams[..usize::from(account.fragments) * 8]);
         self.records(&lot[lot::RECORDS], account);
-        self.bytes(&places[..account.held as usize * 20]);
+        self.bytes(&places[..usize::from(account.held) * 20]);
     }
 }
 
@@ -101,7 +101,7 @@ fn trailer_behind(account: Account, end: usize) -> Trailer
     requires { (account.fragments * 8 + account.held * 20 ≤ end) × (end ≤ 13376) }
     ensures { result ≡ trailer_behind account end }
 {
-    let rest = (account.fragments as usize) * 8 + (account.held as usize) * 20;
+    let rest = usize::from(account.fragments) * 8 + usize::from(account.held) * 20;
     Trailer {
         account,
         records: ((end - rest) / 8) as u16,
@@ -130,8 +130,8 @@ fn load_record(lot: &mut [u8], records: &[u8], j: usize)
     requires { (length lot.old ≡ SIZE) × (j * 8 + 8 ≤ length records.now) × SmallRecord (present_at records.now j) }
     ensures { WithRecords lot.old lot.new (with_present (records_of lot.old) (present_at records.now j)) }
 {
-    let fragment = records[j * 8] as usize;
-    let key = wire::get::<u16>(records, j * 8 + 2) as usize;
+    let fragment = usize::from(records[j * 8]);
+    let key = usize::from(wire::get::<u16>(records, j * 8 + 2));
     let value = wire::get::<u32>(records, j * 8 + 4);
     writes::set_record(lot, fragment, key, value);
 }
@@ -160,12 +160,12 @@ fn load_image(lot: &mut [u8], image: &[u8], t: Trailer)
     requires { (length lot.old ≡ SIZE) × Loadable t image.now }
     ensures { ImageLoaded lot.old lot.new t image.now }
 {
-    let a = (t.account.fragments as usize) * 8;
-    let b = a + (t.records as usize) * 8;
-    let c = b + (t.account.held as usize) * 20;
+    let a = usize::from(t.account.fragments) * 8;
+    let b = a + usize::from(t.records) * 8;
+    let c = b + usize::from(t.account.held) * 20;
     load_held(lot, &image[..a], &image[b..c], t.account);
     writes::unset_records(lot);
-    load_records(lot, &image[a..], t.records as usize);
+    load_records(lot, &image[a..], usize::from(t.records));
 }
 
 // Loads the account of accepted data into a lot, whatever stood there; t is what judging the data found.

@@ -20,7 +20,7 @@ use trailer::Trailer;
 fn place_of(fragment: u8, key: u16) -> u32
     ensures { result ≡ 128 * fragment + key }
 {
-    128 * (fragment as u32) + (key as u32)
+    128 * u32::from(fragment) + u32::from(key)
 }
 
 #[tactic(auto, using(crate::proofs::Records::fragment_at_law, crate::proofs::Records::key_at))]
@@ -71,11 +71,11 @@ fn sections_fit(image: &[u8], t: Trailer) -> bool
     ensures { result ≡ sections_fit t image.now }
 {
     let account = t.account;
-    let a = (account.fragments as usize) * 8;
-    let b = a + (t.records as usize) * 8;
-    let held = Section::new(&image[b..], account.held as usize);
-    lot::streams_fit(image, account.fragments as usize, account.closed)
-        & records_fit(&image[a..], t.records as usize, account)
+    let a = usize::from(account.fragments) * 8;
+    let b = a + usize::from(t.records) * 8;
+    let held = Section::new(&image[b..], usize::from(account.held));
+    lot::streams_fit(image, usize::from(account.fragments), account.closed)
+        & records_fit(&image[a..], usize::from(t.records), account)
         & held::section_fits(account.limits(image), held)
 }
 

@@ -55,7 +55,7 @@ pub fn looks_damaged(look: Look) -> bool
 pub fn looks_of(look: Look, account: u32) -> bool
     ensures { result ≡ looks_of account look }
 {
-    matches!(look, Look::Holds(a) if a.number as u32 == account)
+    matches!(look, Look::Holds(a) if u32::from(a.number) == account)
 }
 
 // ---- a lot and an account are named

@@ -36,9 +36,9 @@ fn row_of(look: Look) -> Row
             damaged: 1,
         },
         Look::Holds(a) => Row {
-            account: a.number as u32,
+            account: u32::from(a.number),
             closed: a.closed,
-            held: a.held as u32,
+            held: u32::from(a.held),
             damaged: 0,
         },
     }

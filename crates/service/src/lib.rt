@@ -26,7 +26,7 @@ fn pack<A: Answer>(answer: A) -> u64
     ensures { result ≡ packed (A.numbers_of answer) }
 {
     let n = answer.numbers();
-    (n.number % 256) as u64 + 256 * ((n.first % 16777216) as u64) + 4294967296 * (n.second as u64)
+    u64::from(n.number % 256) + 256 * u64::from(n.first % 16777216) + 4294967296 * u64::from(n.second)
 }
 
 // ---- the calls whose buffers are plain bytes

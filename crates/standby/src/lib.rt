@@ -169,7 +169,7 @@ pub fn read_record(
     ensures { result ≡ read_answer memory.now lots lot account fragment key }
 {
     let a = lots::find(memory, lots, lot, account)?;
-    if (fragment < a.fragments as u32) & (key < a.keys as u32) {
+    if (fragment < u32::from(a.fragments)) & (key < u32::from(a.keys)) {
         Ok(record_in(memory, lot as usize, fragment as usize, key as usize))
     } else {
         Err(Refusal::OutsideAccount)
@@ -211,7 +211,7 @@ fn number_judged(judged: Option<Trailer>) -> u32
 {
     match judged {
         None => 0,
-        Some(t) => t.account.number as u32,
+        Some(t) => u32::from(t.account.number),
     }
 }
 

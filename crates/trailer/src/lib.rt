@@ -55,7 +55,7 @@ pub fn is_signed(bytes: &[u8]) -> bool
 pub fn image_length(account: Account, records: u16) -> u32
     ensures { result ≡ image_length account.fragments records account.held }
 {
-    (account.fragments as u32) * 8 + (records as u32) * 8 + (account.held as u32) * 20 + 24
+    u32::from(account.fragments) * 8 + u32::from(records) * 8 + u32::from(account.held) * 20 + 24
 }
 
 // Whether a signed trailer fits by itself, at the end of n bytes of data.
@@ -68,7 +68,7 @@ pub fn trailer_fits(bytes: &[u8], n: usize) -> bool
     let a = t.account;
     (bytes[3] == 0)
         & (wire::get::<u16>(bytes, 10) == 0)
-        & lot::account_fits(a.number as u32, a.fragments as u32, a.keys as u32)
+        & lot::account_fits(u32::from(a.number), u32::from(a.fragments), u32::from(a.keys))
         & (a.held <= Account::MOST_HELD)
         & (t.length == image_length(a, t.records))
         & ((t.length as usize) <= n)
@@ -81,7 +81,7 @@ fn write_counts(bytes: &mut [u8], t: Trailer)
     ensures { bytes.new ≡ count_bytes t ++ drop 12 bytes.old }
 {
     wire::put(bytes, 0, t.account.number);
-    wire::put(bytes, 2, t.account.fragments as u16);
+    wire::put(bytes, 2, u16::from(t.account.fragments));
     wire::put(bytes, 4, t.account.keys);
     wire::put(bytes, 6, t.records);
     wire::put(bytes, 8, t.account.held);
