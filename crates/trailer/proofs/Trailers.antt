@@ -47,7 +47,6 @@ module _ (m : List ℕ) (t : Trailer) (len : length m ≡ 24) where
       let high : t.account.fragments / 256 ≡ 0 = omega arith in
       rw (spell 24 m len, low, high)
 
-  pub trailer_written : (x y w q : List ℕ) → x ≡ count_bytes t ++ drop 12 m → y ≡ with32 x 12 t.account.closed → w ≡ with32 y 16 t.length → q ≡ take 4 signature ++ drop 4 (take 4 (drop 20 w))
-      → take 20 w ++ (q ++ drop 4 (drop 20 w)) ≡ trailer_bytes t
-  unfolding count_bytes trailer_bytes with32 bytes16 bytes32 spelled
-  trailer_written x y w q ex ey ew eq = rw (eq, ew, ey, ex, spell 12 (drop 12 m) (omega (arith, length-drop 12 m)))
+pub trailer_written : (t : Trailer) (r : List ℕ) {x y w q : List ℕ} → length r ≡ 12 → x ≡ count_bytes t ++ r → y ≡ with32 x 12 t.account.closed → w ≡ with32 y 16 t.length → q ≡ signature → take 20 w ++ (q ++ drop 4 (drop 20 w)) ≡ trailer_bytes t
+unfolding count_bytes trailer_bytes with32 bytes16 bytes32 spelled
+trailer_written t r len ex ey ew eq = rw (eq, ew, ey, ex, spell 12 r len)
