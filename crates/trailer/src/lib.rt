@@ -2,8 +2,8 @@
 // It stands on `wire`, `model`, and `lot` for the limits of an account.
 #![tactic(auto)]
 
-ghost use Rattle.std.specs.Prelude.{◌≡◌, ◌≤◌, ◌++◌, length, drop};
-ghost use Rattle.trailer.specs.Trailer.{numbers_of, count_bytes, trailer_bytes, signed, image_length, trailer_fits};
+ghost use Rattle.std.specs.Prelude.{◌≡◌};
+ghost use Rattle.trailer.specs.Trailer.{numbers_of, trailer_bytes, signed, image_length, trailer_fits};
 
 use lot::Account;
 
@@ -38,24 +38,15 @@ impl Trailer {
         }
     }
 
-    // The first 12 bytes.
-    #[tactic(auto, using(crate::proofs::Trailers::counts_written))]
-    fn put_counts(self, bytes: &mut [u8; Trailer::LENGTH])
-        ensures { bytes.new ≡ count_bytes self ++ drop 12 bytes.old }
-    {
-        wire::put(bytes, 0, self.account.number);
-        wire::put(bytes, 2, u16::from(self.account.fragments));
-        wire::put(bytes, 4, self.account.keys);
-        wire::put(bytes, 6, self.records);
-        wire::put(bytes, 8, self.account.held);
-        wire::put(bytes, 10, 0u16);
-    }
-
     pub fn to_bytes(self) -> [u8; Trailer::LENGTH]
         ensures { result ≡ trailer_bytes self }
     {
         let mut bytes = [0; Trailer::LENGTH];
-        self.put_counts(&mut bytes);
+        wire::put(&mut bytes, 0, self.account.number);
+        bytes[2] = self.account.fragments;
+        wire::put(&mut bytes, 4, self.account.keys);
+        wire::put(&mut bytes, 6, self.records);
+        wire::put(&mut bytes, 8, self.account.held);
         wire::put(&mut bytes, 12, self.account.closed);
         wire::put(&mut bytes, 16, self.length);
         bytes[20..].copy_from_slice(&SIGNATURE);

@@ -1,7 +1,8 @@
--- `to_bytes` answers the bytes of a trailer. Assumes nothing.
-use mathlib.Core.Path.{refl}
-use Rattle.trailer.proofs.Trailers.{trailer_written}
+-- `to_bytes` answers the bytes of a trailer: all of the zeros are written over, but for three. Assumes nothing.
+use Rattle.wire.specs.Numbers.{with16, with32, bytes16, bytes32}
+use Rattle.trailer.specs.Trailer.{count_bytes, trailer_bytes}
 use Rattle.trailer.proofs.Trailer.to_bytes.Goals as goal
 
 pub returns : goal.returns
-returns c = trailer_written c.args.self _ refl c.put_counts.ensures c.put.ensures c.put-2.ensures c.copy_from_slice.ensures.after
+unfolding count_bytes trailer_bytes with16 with32 bytes16 bytes32
+returns c = rw (c.copy_from_slice.ensures.after, c.put-6.ensures, c.put-5.ensures, c.put-4.ensures, c.put-3.ensures, c.put-2.ensures, c.put.ensures)
