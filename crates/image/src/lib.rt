@@ -21,13 +21,14 @@ pub const LONGEST: usize = 13400;
 
 // ---- saving
 
-fn write_record(bytes: &mut [u8], fragment: u8, key: u16, value: u32)
-    requires { length bytes.old ≡ 8 }
-    ensures { bytes.new ≡ record8 (record { fragment = fragment; key = key; value = value }) }
+fn bytes_of_record(fragment: u8, key: u16, value: u32) -> [u8; 8]
+    ensures { result ≡ record8 (record { fragment = fragment; key = key; value = value }) }
 {
-    wire::put(bytes, 0, u16::from(fragment));
-    wire::put(bytes, 2, key);
-    wire::put(bytes, 4, value);
+    let mut bytes = [0; 8];
+    bytes[0] = fragment;
+    wire::put(&mut bytes, 2, key);
+    wire::put(&mut bytes, 4, value);
+    bytes
 }
 
 // (A lot and its records are slices, as in `writes` and `lot`, which have why.)
@@ -51,19 +52,17 @@ impl Saving<'_> {
     }
 
     // The record of fragment i and key k, if it is present.
-    fn record(&mut self, records: &[u8], i: usize, k: usize)
+    fn record(&mut self, records: &[u8], i: u8, k: u16)
         requires { (length records.now ≡ 5120) × (i < 8) × (k < 128) × (self.old.end + 8 ≤ length self.old.image.now) }
         ensures { Extends self.old self.new (each record8 (present_in records.now i k)) }
     {
-        if let Some(value) = lot::read_record(records, i, k) {
-            let mut bytes = [0; 8];
-            write_record(&mut bytes, i as u8, k as u16, value);
-            self.bytes(&bytes);
+        if let Some(value) = lot::read_record(records, usize::from(i), usize::from(k)) {
+            self.bytes(&bytes_of_record(i, k, value));
         }
     }
 
     // The present records of fragment i, by key.
-    fn fragment(&mut self, records: &[u8], i: usize, keys: usize)
+    fn fragment(&mut self, records: &[u8], i: u8, keys: u16)
         requires { (length records.now ≡ 5120) × (i < 8) × (keys ≤ 128) × (self.old.end + 1024 ≤ length self.old.image.now) }
         ensures { Extends self.old self.new (fragment_bytes records.now i keys) × (self.new.end ≤ self.old.end + 1024) }
     {
@@ -77,8 +76,8 @@ impl Saving<'_> {
         requires { (length records.now ≡ 5120) × (account.keys ≤ 128) × (account.fragments ≤ 8) × (self.old.end + 8192 ≤ length self.old.image.now) }
         ensures { Extends self.old self.new (record_bytes records.now account.keys account.fragments) × (self.new.end ≤ self.old.end + 8192) }
     {
-        for i in 0..usize::from(account.fragments) {
-            self.fragment(records, i, usize::from(account.keys));
+        for i in 0..account.fragments {
+            self.fragment(records, i, account.keys);
         }
     }
 
@@ -117,9 +116,7 @@ pub fn save_lot(lot: &[u8], account: Account, image: &mut [u8]) -> u32
     let mut saving = Saving { image, end: 0 };
     saving.sections(lot, account);
     let t = trailer_behind(account, saving.end);
-    let mut bytes = [0; Trailer::LENGTH];
-    trailer::write_trailer(&mut bytes, t);
-    saving.bytes(&bytes);
+    saving.bytes(&t.to_bytes());
     t.length
 }
 
