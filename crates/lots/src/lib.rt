@@ -81,22 +81,19 @@ pub struct Survey {
     pub free: Option<u32>,
 }
 
-fn with_look(s: Survey, i: u32, look: Look, account: u32) -> Survey
+fn with_look(s: Survey, i: u32, look: Look, account: Option<u32>) -> Survey
     ensures { result ≡ with_look s i look account }
 {
-    let free = if matches!(look, Look::Free) {
-        Some(i)
-    } else {
-        None
-    };
+    let free = matches!(look, Look::Free).then_some(i);
     Survey {
         damaged: s.damaged | looks_damaged(look),
-        known: s.known | looks_of(look, account),
+        known: s.known | account.is_some_and(|number| looks_of(look, number)),
         free: s.free.or(free),
     }
 }
 
-pub fn survey_lots(memory: &[u8], lots: u32, account: u32) -> Survey
+// For no account, none is known.
+pub fn survey_lots(memory: &[u8], lots: u32, account: Option<u32>) -> Survey
     requires { lots * SIZE ≤ length memory.now }
     ensures { result ≡ survey_of memory.now account lots }
 {
