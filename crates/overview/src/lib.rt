@@ -11,7 +11,7 @@ use lot::Look;
 use model::Refusal;
 
 // One lot's line of the overview, as the desk lends it.
-#[derive(Clone, Copy, Debug, PartialEq, Eq)]
+#[derive(Clone, Copy, Debug, Default, PartialEq, Eq)]
 pub struct Row {
     pub account: u32,
     pub closed: u32,
@@ -23,17 +23,10 @@ fn row_of(look: Look) -> Row
     ensures { result ≡ row_from look }
 {
     match look {
-        Look::Free => Row {
-            account: 0,
-            closed: 0,
-            held: 0,
-            damaged: 0,
-        },
+        Look::Free => Row::default(),
         Look::Damaged => Row {
-            account: 0,
-            closed: 0,
-            held: 0,
             damaged: 1,
+            ..Row::default()
         },
         Look::Holds(a) => Row {
             account: u32::from(a.number),

@@ -6,7 +6,6 @@
 
 ghost use Rattle.std.specs.Prelude.{◌≡◌, ◌+◌, ◌*◌, ◌≤◌, length};
 ghost use Rattle.wire.specs.Numbers.{bytes32};
-ghost use Rattle.model.specs.Closing.{LEAST_LIST};
 ghost use Rattle.model.specs.Image.{each};
 ghost use Rattle.model.specs.Answers.{outcome_numbers, opened_numbers, closed_numbers, found_numbers, saved_numbers};
 ghost use Rattle.image.specs.Saving.{Written};
@@ -108,8 +107,8 @@ fn put_numbers(bytes: &mut [u8], numbers: &[u32])
     requires { length numbers.now * 4 ≤ length bytes.old }
     ensures { Written bytes.old bytes.new 0 (length numbers.now * 4) (each bytes32 numbers.now) }
 {
-    for i in 0..numbers.len() {
-        wire::put(bytes, i * 4, numbers[i]);
+    for (i, &number) in numbers.iter().enumerate() {
+        wire::put(bytes, i * 4, number);
     }
 }
 
@@ -120,13 +119,12 @@ fn close_list(
     lot: u32,
     account: u32,
     list: &mut [u8],
-    numbers: &mut [u32],
 ) -> Result<u32, Refusal>
-    requires { length numbers.old ≡ LEAST_LIST }
     ensures { ListClosed memory.old memory.new lots lot account list.old list.new result }
 {
+    let mut numbers = [0; closing::LEAST_LIST];
     let room = room_in(list.len());
-    let closed = standby::close_epoch(memory, lots, lot, account, &mut numbers[0..room]);
+    let closed = standby::close_epoch(memory, lots, lot, account, &mut numbers[..room]);
     put_numbers(list, &numbers[..written_by(closed)]);
     closed
 }
@@ -134,8 +132,7 @@ fn close_list(
 pub fn standby_close(memory: &mut [u8], lots: u32, lot: u32, account: u32, list: &mut [u8]) -> u64
     ensures { Answered closed_numbers (ListClosed memory.old memory.new lots lot account list.old list.new) result }
 {
-    let mut numbers = [0u32; 512];
-    pack(close_list(memory, lots, lot, account, list, &mut numbers))
+    pack(close_list(memory, lots, lot, account, list))
 }
 
 // ---- the overview: a row crosses as four numbers (the C interface)

@@ -30,6 +30,8 @@ use trailer::Trailer;
 
 // ---- start
 
+// (By an index each: of a slice whose parts `chunks_exact_mut` lends, std says only its length afterwards. And `as` takes u32 to usize
+// and what was judged to a smaller number, for which std has no `From`.)
 fn free_lots(memory: &mut [u8], n: usize)
     requires { n * SIZE ≤ length memory.old }
     ensures { AllFree n memory.old memory.new }
