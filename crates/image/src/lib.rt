@@ -94,7 +94,8 @@ impl Saving<'_> {
     }
 }
 
-// The numbers of the trailer that stands from index `end` on.
+// The numbers of the trailer that stands from index `end` on. (`as` makes small what is proved small: `TryFrom` would have an `Err` that
+// can't be. For u32 to usize, as in `load_lot`, std has no `From`.)
 #[tactic(auto, unfolding(crate::specs::Saving::trailer_behind))]
 fn trailer_behind(account: Account, end: usize) -> Trailer
     requires { (account.fragments * 8 + account.held * 20 ≤ end) × (end ≤ 13376) }

@@ -16,7 +16,7 @@ pub const MOST_LOTS: u32 = 16;
 
 // ---- one lot
 
-// Refusal 1.
+// Refusal 1. (`as` takes u32 to usize, for which std has no `From`.)
 pub fn memory_fits(memory: &[u8], lots: u32) -> bool
     ensures { result ≡ memory_fits lots memory.now }
 {
@@ -92,7 +92,7 @@ fn with_look(s: Survey, i: u32, look: Look, account: Option<u32>) -> Survey
     }
 }
 
-// For no account, none is known.
+// A survey for no account finds none open.
 pub fn survey_lots(memory: &[u8], lots: u32, account: Option<u32>) -> Survey
     requires { lots * SIZE ≤ length memory.now }
     ensures { result ≡ survey_of memory.now account lots }

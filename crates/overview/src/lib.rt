@@ -46,7 +46,8 @@ fn row_in(memory: &[u8], lot: usize) -> Row
 
 // (A row's fields, and lot and memory as parameters, are the C interface: numbers and byte slices.)
 
-// The same for a caller that lends no rows: the row of one lot, and that of a free one where there is no such lot.
+// The same for a caller that lends no rows: the row of one lot, and that of a free one where there is no such lot. (`as` takes u32 to
+// usize, for which std has no `From`.)
 pub fn row_at(memory: &[u8], lots: u32, lot: u32) -> Row
     ensures { result ≡ row_at memory.now lots lot }
 {

@@ -6,6 +6,7 @@
 
 ghost use Rattle.std.specs.Prelude.{◌≡◌, ◌+◌, ◌*◌, ◌≤◌, length};
 ghost use Rattle.wire.specs.Numbers.{bytes32};
+ghost use Rattle.model.specs.Closing.{LEAST_LIST};
 ghost use Rattle.model.specs.Image.{each};
 ghost use Rattle.model.specs.Answers.{outcome_numbers, opened_numbers, closed_numbers, found_numbers, saved_numbers};
 ghost use Rattle.image.specs.Saving.{Written};
@@ -25,7 +26,9 @@ fn pack<A: Answer>(answer: A) -> u64
     ensures { result ≡ packed (A.numbers_of answer) }
 {
     let n = answer.numbers();
-    u64::from(n.number % 256) + 256 * u64::from(n.first % 16777216) + 4294967296 * u64::from(n.second)
+    u64::from(n.number % 256)
+        + 256 * u64::from(n.first % 16777216)
+        + 4294967296 * u64::from(n.second)
 }
 
 // ---- the calls whose buffers are plain bytes
@@ -92,7 +95,7 @@ fn room_in(bytes: usize) -> usize
     }
 }
 
-// How many numbers a close has written.
+// How many numbers a close has written. (`as` takes u32 to usize, for which std has no `From`.)
 fn written_by(closed: Result<u32, Refusal>) -> usize
     ensures { result ≡ written_by closed }
 {
@@ -119,10 +122,11 @@ fn close_list(
     lot: u32,
     account: u32,
     list: &mut [u8],
+    numbers: &mut [u32],
 ) -> Result<u32, Refusal>
+    requires { length numbers.old ≡ LEAST_LIST }
     ensures { ListClosed memory.old memory.new lots lot account list.old list.new result }
 {
-    let mut numbers = [0; closing::LEAST_LIST];
     let room = room_in(list.len());
     let closed = standby::close_epoch(memory, lots, lot, account, &mut numbers[..room]);
     put_numbers(list, &numbers[..written_by(closed)]);
@@ -132,7 +136,8 @@ fn close_list(
 pub fn standby_close(memory: &mut [u8], lots: u32, lot: u32, account: u32, list: &mut [u8]) -> u64
     ensures { Answered closed_numbers (ListClosed memory.old memory.new lots lot account list.old list.new) result }
 {
-    pack(close_list(memory, lots, lot, account, list))
+    let mut numbers = [0; closing::LEAST_LIST];
+    pack(close_list(memory, lots, lot, account, list, &mut numbers))
 }
 
 // ---- the overview: a row crosses as four numbers (the C interface)

@@ -30,8 +30,7 @@ use trailer::Trailer;
 
 // ---- start
 
-// (By an index each: of a slice whose parts `chunks_exact_mut` lends, std says only its length afterwards. And `as` takes u32 to usize
-// and what was judged to a smaller number, for which std has no `From`.)
+// Each lot by its index: of a slice that `chunks_exact_mut` lends in parts, std's contract says only its length afterwards.
 fn free_lots(memory: &mut [u8], n: usize)
     requires { n * SIZE ≤ length memory.old }
     ensures { AllFree n memory.old memory.new }
@@ -41,6 +40,7 @@ fn free_lots(memory: &mut [u8], n: usize)
     }
 }
 
+// (`as` takes u32 to usize, for which std has no `From`, and in `open_account` what was judged to fit to its own type.)
 pub fn start(memory: &mut [u8], lots: u32) -> Result<(), Refusal>
     ensures { Started memory.old memory.new lots result }
 {

@@ -46,6 +46,8 @@ returns c =
     let a = c.args in
     let j = is_judged c.judge_image-judged.result c.in_ok-t.ensures.value in
     let n : c.map.result ≡ Some c.in_ok-t.t.account.number = some_holds _ _ _ (rw j at c.map.ensures.cases) (λ r w. search (rules)) in
-    let shown = sym c.judge_image-judged.ensures ∙ j in
-    (load_placed a.memory.now a.lots a.«data».now (sym c.memory_fits.ensures ∙ c.if-not-memory_fits.false) _ (sym (ap (λ s. s.damaged) c.survey_lots-survey.ensures) ∙ c.if-survey.false) shown n
-    ∙ ap place_in (sym c.survey_lots-survey.ensures) ∙ sym c.place_in.ensures ∙ c.in_ok-lot.was, shown)
+    let shown = sym c.judge_image-judged.ensures ∙ j in (
+      load_placed a.memory.now a.lots a.«data».now (sym c.memory_fits.ensures ∙ c.if-not-memory_fits.false) _ (sym (ap (λ s. s.damaged) c.survey_lots-survey.ensures) ∙ c.if-survey.false) shown n
+          ∙ ap place_in (sym c.survey_lots-survey.ensures) ∙ sym c.place_in.ensures ∙ c.in_ok-lot.was,
+      shown,
+    )
