@@ -75,8 +75,8 @@ pub fn overview(memory: &[u8], lots: u32, rows: &mut [Row]) -> Result<(), Refusa
     ensures { Overviewed memory.now lots rows.old rows.new result }
 {
     overview_answer(memory, lots, rows.len())?;
-    for i in 0..lots as usize {
-        rows[i] = row_in(memory, i);
+    for (i, row) in rows[..lots as usize].iter_mut().enumerate() {
+        *row = row_in(memory, i);
     }
     Ok(())
 }
