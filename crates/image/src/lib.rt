@@ -46,8 +46,7 @@ impl Saving<'_> {
         ensures { Extends self.old self.new from.now }
     {
         let end = self.end + from.len();
-        let image = &mut *self.image;
-        image[self.end..end].copy_from_slice(from);
+        self.image[self.end..end].copy_from_slice(from);
         self.end = end;
     }
 

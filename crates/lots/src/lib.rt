@@ -74,7 +74,7 @@ pub fn find(memory: &[u8], lots: u32, lot: u32, account: u32) -> Result<Account,
 
 // What a call that opens an account learns of all lots: some lot is damaged, the account is open in one, and the free lot with
 // the lowest number, if one is free.
-#[derive(Clone, Copy, Debug, PartialEq, Eq)]
+#[derive(Clone, Copy, Debug, Default, PartialEq, Eq)]
 pub struct Survey {
     pub damaged: bool,
     pub known: bool,
@@ -97,11 +97,7 @@ pub fn survey_lots(memory: &[u8], lots: u32, account: Option<u32>) -> Survey
     requires { lots * SIZE ≤ length memory.now }
     ensures { result ≡ survey_of memory.now account lots }
 {
-    let mut s = Survey {
-        damaged: false,
-        known: false,
-        free: None,
-    };
+    let mut s = Survey::default();
     for i in 0..lots {
         s = with_look(s, i, look_in(memory, i as usize), account);
     }
