@@ -70,8 +70,9 @@ fn sections_fit(image: &[u8], t: Trailer) -> bool
         & held::section_fits(account.limits(image), held)
 }
 
-// The numbers of the trailer of the image that data ends with, or none where it ends with no image. The signature is compared first, then the
-// trailer is judged, then followed back: as many last bytes are read as it says, and none before them. (`as` takes u32 to usize, for which std has no `From`.)
+// The numbers of the trailer of the image that data ends with, or none where it ends with no image. The signature is compared first, then
+// the trailer is judged, then followed back: as many last bytes are read as it says, and none before them. (`as` takes u32 to usize, for
+// which std has no `From`.)
 pub fn judge_image(data: &[u8]) -> Option<Trailer>
     ensures { result ≡ judged_of «data».now }
 {
