@@ -34,7 +34,11 @@ pub fn refusal_numbers(refusal: Refusal) -> Numbers
         Refusal::WrongMark => numbers(9, 0, 0),
         Refusal::OutOfTurn => numbers(10, 0, 0),
         Refusal::Full => numbers(11, 0, 0),
-        Refusal::MarkMissing { streams, how_many } => numbers(12, streams as u32, how_many as u32),
+        Refusal::MarkMissing { streams, how_many } => numbers(
+            12,
+            u32::from(streams),
+            u32::from(how_many),
+        ),
         Refusal::AlreadyOpen => numbers(13, 0, 0),
         Refusal::NoFreeLot => numbers(14, 0, 0),
         Refusal::UnfitAccount => numbers(15, 0, 0),

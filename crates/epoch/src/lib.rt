@@ -43,7 +43,8 @@ pub struct Missing {
     pub ones: u8,
 }
 
-// The streams without the mark, as a byte, and how many: the ones of that byte.
+// The streams without the mark, as a byte, and how many: the ones of that byte. (`as` makes small what is proved small, here and in
+// `install_pieces`: `TryFrom` would have an `Err` that can't be.)
 pub fn missing_marks(streams: &[u8], fragments: u8, closed: u32) -> Missing
     requires { (fragments ≤ 8) × (fragments * 8 ≤ length streams.now) × (closed < 4294967295) }
     ensures { MissingMarks streams.now closed fragments result.streams result.ones }

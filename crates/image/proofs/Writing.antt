@@ -1,20 +1,18 @@
 -- Bytes written one after the other in a buffer. Assumes nothing.
 use Rattle.std.specs.Prelude.{Option, Some}
-use Prim.Native.Nat.{ℕ, ◌+◌, ◌/◌, ◌%◌, ◌<◌, ◌≤◌}
+use Prim.Native.Nat.{ℕ, ◌+◌, ◌≤◌}
 use mathlib.Core.Path.{◌≡◌, refl, sym, ap, ◌∙◌}
 use mathlib.Core.List.{List, [], ◌++◌, append_assoc, append-nil}
 use native.Mathlib.Numerals.{add-one}
 use native.Mathlib.Omega.{arith}
 use lib.ListN.{length, take, drop, length-append, take-append-drop}
 use lib.Seq.{length-take-le, take_at, drop_at, drop-drop}
-use Rattle.wire.specs.Numbers.{with16, with32, bytes16, bytes32}
 use Rattle.model.specs.Lists.{upward}
 use Rattle.model.specs.Account.{Record, absent, present}
 use Rattle.model.specs.Image.{Present, shown, record8, each}
 use Rattle.model.proofs.Decode.{record_long}
 use Rattle.model.proofs.Tests.{no_way}
 use Rattle.lot.specs.Writing.{found_of}
-use Rattle.lot.proofs.Heads.{spelled, spell}
 use Rattle.judging.proofs.Parts.{upward_more, each_append}
 use Rattle.image.specs.Saving.{written, Written, present_in, fragment_bytes, record_bytes}
 
@@ -41,13 +39,6 @@ module _ (m : List ℕ) (at : ℕ) (room : at ≤ length m) where
   write_more {x = x} {y = y} v w = record { bytes = w.bytes ∙ rw (v.behind, v.bytes) (written_more x y); behind = w.behind ∙ rw (v.behind, length-append x y) (omega arith) }
 
 -- ---- a record
-
-pub record_written : (m : List ℕ) (r : Present) → length m ≡ 8 → r.fragment < 256 → with32 (with16 (with16 m 0 r.fragment) 2 r.key) 4 r.value ≡ record8 r
-unfolding with16 with32 record8 bytes16 bytes32 spelled
-record_written m r len small =
-    let low : r.fragment % 256 ≡ r.fragment = omega arith in
-    let high : r.fragment / 256 ≡ 0 = omega arith in
-    rw (spell 8 m len, low, high)
 
 module _ (i k : ℕ) where
   pub shows_present : (y : Record) (v : ℕ) → Some v ≡ found_of y → each record8 (shown i k y) ≡ record8 (record { fragment = i; key = k; value = v })

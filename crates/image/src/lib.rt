@@ -21,13 +21,14 @@ pub const LONGEST: usize = 13400;
 
 // ---- saving
 
-fn write_record(bytes: &mut [u8], fragment: u8, key: u16, value: u32)
-    requires { length bytes.old ≡ 8 }
-    ensures { bytes.new ≡ record8 (record { fragment = fragment; key = key; value = value }) }
+fn bytes_of_record(fragment: u8, key: u16, value: u32) -> [u8; 8]
+    ensures { result ≡ record8 (record { fragment = fragment; key = key; value = value }) }
 {
-    wire::put(bytes, 0, fragment as u16);
-    wire::put(bytes, 2, key);
-    wire::put(bytes, 4, value);
+    let mut bytes = [0; 8];
+    bytes[0] = fragment;
+    wire::put(&mut bytes, 2, key);
+    wire::put(&mut bytes, 4, value);
+    bytes
 }
 
 // (A lot and its records are slices, as in `writes` and `lot`, which have why.)
@@ -45,25 +46,22 @@ impl Saving<'_> {
         ensures { Extends self.old self.new from.now }
     {
         let end = self.end + from.len();
-        let image = &mut *self.image;
-        image[self.end..end].copy_from_slice(from);
+        self.image[self.end..end].copy_from_slice(from);
         self.end = end;
     }
 
     // The record of fragment i and key k, if it is present.
-    fn record(&mut self, records: &[u8], i: usize, k: usize)
+    fn record(&mut self, records: &[u8], i: u8, k: u16)
         requires { (length records.now ≡ 5120) × (i < 8) × (k < 128) × (self.old.end + 8 ≤ length self.old.image.now) }
         ensures { Extends self.old self.new (each record8 (present_in records.now i k)) }
     {
-        if let Some(value) = lot::read_record(records, i, k) {
-            let mut bytes = [0; 8];
-            write_record(&mut bytes, i as u8, k as u16, value);
-            self.bytes(&bytes);
+        if let Some(value) = lot::read_record(records, usize::from(i), usize::from(k)) {
+            self.bytes(&bytes_of_record(i, k, value));
         }
     }
 
     // The present records of fragment i, by key.
-    fn fragment(&mut self, records: &[u8], i: usize, keys: usize)
+    fn fragment(&mut self, records: &[u8], i: u8, keys: u16)
         requires { (length records.now ≡ 5120) × (i < 8) × (keys ≤ 128) × (self.old.end + 1024 ≤ length self.old.image.now) }
         ensures { Extends self.old self.new (fragment_bytes records.now i keys) × (self.new.end ≤ self.old.end + 1024) }
     {
@@ -77,8 +75,8 @@ impl Saving<'_> {
         requires { (length records.now ≡ 5120) × (account.keys ≤ 128) × (account.fragments ≤ 8) × (self.old.end + 8192 ≤ length self.old.image.now) }
         ensures { Extends self.old self.new (record_bytes records.now account.keys account.fragments) × (self.new.end ≤ self.old.end + 8192) }
     {
-        for i in 0..account.fragments as usize {
-            self.fragment(records, i, account.keys as usize);
+        for i in 0..account.fragments {
+            self.fragment(records, i, account.keys);
         }
     }
 
@@ -89,19 +87,20 @@ impl Saving<'_> {
     {
         let streams = &lot[lot::STREAMS];
         let places = &lot[lot::PLACES];
-        self.bytes(&streams[..account.fragments as usize * 8]);
+        self.bytes(&streams[..usize::from(account.fragments) * 8]);
         self.records(&lot[lot::RECORDS], account);
-        self.bytes(&places[..account.held as usize * 20]);
+        self.bytes(&places[..usize::from(account.held) * 20]);
     }
 }
 
-// The numbers of the trailer that stands from index `end` on.
+// The numbers of the trailer that stands from index `end` on. (`as` makes small what is proved small: `TryFrom` would have an `Err` that
+// can't be. For u32 to usize, as in `load_lot`, std has no `From`.)
 #[tactic(auto, unfolding(crate::specs::Saving::trailer_behind))]
 fn trailer_behind(account: Account, end: usize) -> Trailer
     requires { (account.fragments * 8 + account.held * 20 ≤ end) × (end ≤ 13376) }
     ensures { result ≡ trailer_behind account end }
 {
-    let rest = (account.fragments as usize) * 8 + (account.held as usize) * 20;
+    let rest = usize::from(account.fragments) * 8 + usize::from(account.held) * 20;
     Trailer {
         account,
         records: ((end - rest) / 8) as u16,
@@ -117,9 +116,7 @@ pub fn save_lot(lot: &[u8], account: Account, image: &mut [u8]) -> u32
     let mut saving = Saving { image, end: 0 };
     saving.sections(lot, account);
     let t = trailer_behind(account, saving.end);
-    let mut bytes = [0; Trailer::LENGTH];
-    trailer::write_trailer(&mut bytes, t);
-    saving.bytes(&bytes);
+    saving.bytes(&t.to_bytes());
     t.length
 }
 
@@ -130,8 +127,8 @@ fn load_record(lot: &mut [u8], records: &[u8], j: usize)
     requires { (length lot.old ≡ SIZE) × (j * 8 + 8 ≤ length records.now) × SmallRecord (present_at records.now j) }
     ensures { WithRecords lot.old lot.new (with_present (records_of lot.old) (present_at records.now j)) }
 {
-    let fragment = records[j * 8] as usize;
-    let key = wire::get::<u16>(records, j * 8 + 2) as usize;
+    let fragment = usize::from(records[j * 8]);
+    let key = usize::from(wire::get::<u16>(records, j * 8 + 2));
     let value = wire::get::<u32>(records, j * 8 + 4);
     writes::set_record(lot, fragment, key, value);
 }
@@ -160,12 +157,12 @@ fn load_image(lot: &mut [u8], image: &[u8], t: Trailer)
     requires { (length lot.old ≡ SIZE) × Loadable t image.now }
     ensures { ImageLoaded lot.old lot.new t image.now }
 {
-    let a = (t.account.fragments as usize) * 8;
-    let b = a + (t.records as usize) * 8;
-    let c = b + (t.account.held as usize) * 20;
+    let a = usize::from(t.account.fragments) * 8;
+    let b = a + usize::from(t.records) * 8;
+    let c = b + usize::from(t.account.held) * 20;
     load_held(lot, &image[..a], &image[b..c], t.account);
     writes::unset_records(lot);
-    load_records(lot, &image[a..], t.records as usize);
+    load_records(lot, &image[a..], usize::from(t.records));
 }
 
 // Loads the account of accepted data into a lot, whatever stood there; t is what judging the data found.

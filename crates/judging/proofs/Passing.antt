@@ -1,5 +1,6 @@
 -- Data pass the tests of judging exactly if the model's load accepts them, and then the trailer has the account's numbers. Assumes nothing.
 use Rattle.std.specs.Prelude.{Option, Some, None}
+use Rattle.std.specs.Bool.{then_some}
 use Prim.Native.Nat.{ℕ, ◌+◌, ◌*◌, ◌-◌, ◌<◌, ◌≤◌}
 use mathlib.Core.Path.{◌≡◌, refl, sym, ap, ◌∙◌}
 use mathlib.Core.Bool.{Bool, true, false, ◌&&◌, and-true, and_assoc}
@@ -190,42 +191,45 @@ sections_law b t x y z p q r =
     rw (p, q, r, part_from_law b (t.account.fragments * 8), part_from_law b (t.account.fragments * 8 + t.records * 8), ← drop-drop (t.records * 8) (t.account.fragments * 8) b) (simp (and_assoc, and-true))
 
 module _ (l : List ℕ) where
-  abbrev pub last_part : List ℕ
-  last_part = part_from l (length l - 24)
+  pub too_short : length l < 24 → None ≡ judged_of l
+  too_short h = refused l (λ p. omega (arith, p.long))
 
   last_part_law : (n : ℕ) → part_from l (length l - n) ≡ last_of n l
   unfolding last_of
   last_part_law n = part_from_law l (length l - n)
 
-  pub too_short : length l < 24 → None ≡ judged_of l
-  too_short h = refused l (λ p. omega (arith, p.long))
+  -- m are the last bytes
+  module _ (m : List ℕ) (e : m ≡ drop (length l - 24) l) where
+    last : m ≡ last_of 24 l
+    unfolding last_of
+    last = e
 
-  pub not_signed : signed last_part ≡ false → None ≡ judged_of l
-  not_signed e = refused l (λ p. true_or_false p.is_signed (rw (last_part_law 24) at e))
+    pub not_signed : signed m ≡ false → None ≡ judged_of l
+    not_signed w = refused l (λ p. true_or_false p.is_signed (rw last at w))
 
-  pub trailer_unfit : trailer_fits (length l) last_part ≡ false → None ≡ judged_of l
-  trailer_unfit e = refused l (λ p. true_or_false p.trailer (rw (last_part_law 24) at e))
+    pub trailer_unfit : trailer_fits (length l) m ≡ false → None ≡ judged_of l
+    trailer_unfit w = refused l (λ p. true_or_false p.trailer (rw last at w))
 
-  module _ (t : Trailer) (is : t ≡ numbers_of last_part) where
-    are : t ≡ last_numbers l
-    are = is ∙ ap numbers_of (last_part_law 24)
+    module _ (fits : trailer_fits (length l) m ≡ true) (t : Trailer) (is : t ≡ numbers_of m) where
+      are : t ≡ last_numbers l
+      are = is ∙ ap numbers_of last
 
-    pub limits : trailer_fits (length l) last_part ≡ true → (t.length ≤ length l) × (length (part_from l (length l - t.length)) ≡ image_length t.account.fragments t.records t.account.held) × (t.account.held ≤ 256)
-    unfolding trailer_fits
-    limits w =
-        let n = nth _ w in
-        rw is
-        (let v = numbers_of last_part in
-        let h = leb-true v.length (length l) (n 5) in
-        let e = eqb-true v.length (image_length v.account.fragments v.records v.account.held) (n 4) in
-        (h, rw (part_from_law l (length l - v.length), length-drop (length l - v.length) l) (omega arith), leb-true v.account.held 256 (n 3)))
+      pub within_data : t.length ≤ length l
+      unfolding trailer_fits
+      within_data = rw is (leb-true (numbers_of m).length (length l) (nth _ fits 5))
 
-    pub sections_unfit : sections_fit t (part_from l (length l - t.length)) ≡ false → None ≡ judged_of l
-    sections_unfit e = refused l (λ p. true_or_false p.sections (rw (last_part_law t.length, are) at e))
+      pub limits : (length (part_from l (length l - t.length)) ≡ image_length t.account.fragments t.records t.account.held) × (t.account.held ≤ 256)
+      unfolding trailer_fits
+      limits =
+          let h = within_data in
+          let v = numbers_of m in
+          let q : t.length ≡ image_length t.account.fragments t.records t.account.held = rw is (eqb-true v.length (image_length v.account.fragments v.records v.account.held) (nth _ fits 4)) in
+          (rw (part_from_law l (length l - t.length), length-drop (length l - t.length) l) (omega arith), rw is (leb-true v.account.held 256 (nth _ fits 3)))
 
-    pub all_pass : Bytes l → 24 ≤ length l → signed last_part ≡ true → trailer_fits (length l) last_part ≡ true → sections_fit t (part_from l (length l - t.length)) ≡ true → Some t ≡ judged_of l
-    all_pass b h s w v =
-        rw are (passed l b (record { long = h; is_signed = rw (last_part_law 24) at s; trailer = rw (last_part_law 24) at w; sections = rw (last_part_law t.length, are) at v }))
+      pub all_judged : Bytes l → 24 ≤ length l → signed m ≡ true → (x : Bool) → x ≡ sections_fit t (part_from l (length l - t.length)) → then_some x t ≡ judged_of l
+      all_judged b h s false v = refused l (λ p. true_or_false p.sections (rw (last_part_law t.length, are) at (sym v)))
+      all_judged b h s true v =
+          rw are (passed l b (record { long = h; is_signed = rw last at s; trailer = rw last at fits; sections = rw (last_part_law t.length, are) at (sym v) }))
 
 -- ---- what accepted data are
 

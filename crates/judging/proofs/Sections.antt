@@ -1,5 +1,5 @@
 -- The sections of an image pass their tests exactly if their zero bytes are zero and what they show fits; then they are its bytes. Assumes nothing.
-use Prim.Native.Nat.{ℕ, ◌+◌, ◌*◌, ◌-◌, ◌<◌}
+use Prim.Native.Nat.{ℕ, ◌+◌, ◌*◌, ◌-◌, ◌<◌, ◌≤◌}
 use mathlib.Core.Path.{◌≡◌, sym, ap, ◌∙◌}
 use mathlib.Core.Bool.{Bool, true, ◌&&◌}
 use mathlib.Core.List.{List, [], ◌++◌}
@@ -7,7 +7,7 @@ use native.Mathlib.Omega.{arith}
 use lib.Dec.{leb, ltb}
 use lib.ListN.{length, get_or, take, drop, length-drop, take-append-drop}
 use lib.Seq.{take-add, length-take-le}
-use borrow.Author.Tests.{eqb-true, eq-eqb}
+use borrow.Author.Tests.{eqb-true, eq-eqb, leb-true}
 use Rattle.wire.specs.Numbers.{number16, number32}
 use Rattle.model.specs.Lists.{every, all}
 use Rattle.model.specs.Account.{account_fits}
@@ -24,7 +24,7 @@ use Rattle.trailer.specs.Trailer.{trailer_bytes, image_length}
 use Rattle.trailer.specs.declared.Trailer.{Trailer}
 use Rattle.judging.specs.Judging.{plain_record, record_fits, sections_fit}
 use Rattle.judging.proofs.Parts.{Bytes, bytes_drop, parse_singles, streams_sound, records_sound, held_sound}
-use Rattle.judging.proofs.Records.{records_split}
+use Rattle.judging.proofs.Records.{records_split, plain_passes}
 use Rattle.judging.proofs.Trailers.{form_numbers, trailer_is}
 
 -- what the test of a form says
@@ -48,6 +48,10 @@ module _ (x : Form) (w : form_fits x ≡ true) where
   pub held_fit : held_fits x.keys x.closed x.streams [] x.held ≡ true
   unfolding form_fits
   held_fit = nth _ w 4
+
+few_keys : (number f k : ℕ) → account_fits number f k ≡ true → k ≤ 128
+unfolding account_fits
+few_keys number f k w = leb-true k 128 (nth _ w 5)
 
 -- the open epochs of the first n streams, each above c
 module _ (c n : ℕ) (b : List ℕ) where
@@ -81,9 +85,9 @@ module _ (t : Trailer) (b : List ℕ) where
     unfolding sections_fit
     streams_pass = below_in (stream_fits t.account.closed b) t.account.fragments (nth _ w 0)
 
-    records_pass : (all_below (plain_record records) t.records && records_fit t.account.fragments t.account.keys 0 shown_by.records) ≡ true
+    records_pass : all_below (record_fits t.account.fragments t.account.keys records) t.records ≡ true
     unfolding sections_fit
-    records_pass = sym (records_split t.account.fragments t.account.keys records t.records) ∙ nth _ w 1
+    records_pass = nth _ w 1
 
     held_pass : (plain t.account.held places && held_fits t.account.keys t.account.closed shown_by.streams [] shown_by.held) ≡ true
     unfolding sections_fit section_fits
@@ -97,7 +101,7 @@ module _ (t : Trailer) (b : List ℕ) where
     unfolding stream_fits
     sections_plain = record {
       of_streams = λ i h. eqb-true (number16 b (i * 8 + 2)) 0 (nth _ (streams_pass i h) 0);
-      of_records = λ i h. eqb-true (get_or records (i * 8 + 1) 0) 0 (below_in (plain_record records) t.records (and_l _ _ records_pass) i h);
+      of_records = λ i h. eqb-true (get_or records (i * 8 + 1) 0) 0 (plain_passes t.account.fragments t.account.keys records t.records records_pass i h);
       of_places = and_l _ _ held_pass;
     }
 
@@ -105,15 +109,17 @@ module _ (t : Trailer) (b : List ℕ) where
     unfolding form_fits every
     sections_form a h =
         let o : all (λ s. ltb t.account.closed s.epoch) shown_by.streams ≡ true = epochs_of t.account.closed t.account.fragments b epochs_pass in
-        rw (length_parse 8 counters_of t.account.fragments b, length_parse 20 item_of t.account.held places, a, h, o, and_r (all_below (plain_record records) t.records) _ records_pass, and_r (plain t.account.held places) _ held_pass)
+        let r : records_fit t.account.fragments t.account.keys 0 shown_by.records ≡ true = and_r (all_below (plain_record records) t.records) _ (sym (records_split t.account.fragments t.account.keys (few_keys _ _ _ a) records t.records) ∙ records_pass) in
+        rw (length_parse 8 counters_of t.account.fragments b, length_parse 20 item_of t.account.held places, a, h, o, r, and_r (plain t.account.held places) _ held_pass)
 
   pub form_sections : Plain → form_fits shown_by ≡ true → sections_fit t b ≡ true
   unfolding sections_fit section_fits stream_fits every
   form_sections p w =
       let s : all_below (stream_fits t.account.closed b) t.account.fragments ≡ true = below_of (stream_fits t.account.closed b) t.account.fragments (λ i h. rw (eq-eqb (number16 b (i * 8 + 2)) 0 (p.of_streams i h), epochs_in t.account.closed t.account.fragments b (epochs_fit shown_by w) i h)) in
       let z : all_below (plain_record records) t.records ≡ true = below_of (plain_record records) t.records (λ i h. eq-eqb (get_or records (i * 8 + 1) 0) 0 (p.of_records i h)) in
+      let fits : account_fits t.account.number t.account.fragments t.account.keys ≡ true = rw (length_parse 8 counters_of t.account.fragments b) at (account_fits_law shown_by w) in
       let q : records_fit t.account.fragments t.account.keys 0 shown_by.records ≡ true = rw (length_parse 8 counters_of t.account.fragments b) at (records_fit_law shown_by w) in
-      let r : all_below (record_fits t.account.fragments t.account.keys records) t.records ≡ true = records_split t.account.fragments t.account.keys records t.records ∙ rw (z, q) in
+      let r : all_below (record_fits t.account.fragments t.account.keys records) t.records ≡ true = records_split t.account.fragments t.account.keys (few_keys _ _ _ fits) records t.records ∙ rw (z, q) in
       rw (s, r, p.of_places, held_fit shown_by w)
 
   -- ---- the bytes

@@ -1,9 +1,9 @@
 -- What judging data answers, by the model's load; and the tests of an image's sections that it is made of.
-use Rattle.std.specs.Prelude.{ℕ, zero, suc, ◌+◌, ◌*◌, Bool, true, List, [], ◌∷◌, ltb, eqb, length, get_or, drop, Option, Some, None}
+use Rattle.std.specs.Prelude.{ℕ, zero, suc, ◌+◌, ◌*◌, Bool, true, ◌&&◌, ◌||◌, List, [], ◌∷◌, ltb, eqb, length, get_or, drop, Option, Some, None}
 use Rattle.model.specs.Lists.{every}
 use Rattle.model.specs.Account.{Account, held_count}
 use Rattle.model.specs.Image.{Present, form, image}
-use Rattle.model.specs.Decoding.{counters_of, present_of, parse, place, load}
+use Rattle.model.specs.Decoding.{counters_of, present_of, parse, load}
 use Rattle.model.specs.Section.{section_fits}
 use Rattle.lot.specs.View.{stream_fits, all_below}
 use Rattle.lot.specs.Head.{numbers_with}
@@ -29,10 +29,14 @@ judged_of given = judged_as (load given)
 abbrev pub present_at : List ℕ → ℕ → Present
 present_at s i = present_of (drop (i * 8) s)
 
--- the record stands at a later place than the one before it
+-- q comes after p: by fragment, then key, without repeats
+unfoldable pub comes_after : Present → Present → Bool
+comes_after p q = ltb p.fragment q.fragment || eqb p.fragment q.fragment && ltb p.key q.key
+
+-- the record comes after the one before it
 unfoldable pub in_order : List ℕ → ℕ → Bool
 in_order s zero = true
-in_order s (suc i) = ltb (place (present_at s i)) (place (present_at s (suc i)))
+in_order s (suc i) = comes_after (present_at s i) (present_at s (suc i))
 
 -- its zero byte is zero
 abbrev pub plain_record : List ℕ → ℕ → Bool

@@ -3,7 +3,6 @@
 #![tactic(auto)]
 
 ghost use Rattle.std.specs.Prelude.{◌≡◌, ◌+◌, ◌*◌, ◌≤◌, length};
-ghost use Rattle.model.specs.Decoding.{place};
 ghost use Rattle.lot.specs.View.{all_below};
 ghost use Rattle.trailer.specs.Trailer.{image_length};
 ghost use Rattle.judging.specs.Judging.{judged_of, present_at, in_order, record_fits, sections_fit};
@@ -16,41 +15,33 @@ use trailer::Trailer;
 
 // ---- the records of an image
 
-// The place of a record among all that an account may have.
-fn place_of(fragment: u8, key: u16) -> u32
-    ensures { result ≡ 128 * fragment + key }
-{
-    128 * (fragment as u32) + (key as u32)
-}
-
+// A record's fragment and key, by which records stand in order.
 #[tactic(auto, using(crate::proofs::Records::fragment_at_law, crate::proofs::Records::key_at))]
-fn place_at(records: &[u8], i: usize) -> u32
+fn place_at(records: &[u8], i: usize) -> (u8, u16)
     requires { i * 8 + 8 ≤ length records.now }
-    ensures { result ≡ place (present_at records.now i) }
+    ensures { (result.0 ≡ (present_at records.now i).fragment) × (result.1 ≡ (present_at records.now i).key) }
 {
-    place_of(records[i * 8], wire::get(records, i * 8 + 2))
+    (records[i * 8], wire::get(records, i * 8 + 2))
 }
 
 // Record i comes after the one before it: by fragment, then key, without repeats.
-#[tactic(auto, unfolding(crate::specs::Judging::in_order), using(crate::proofs::Records::order_at))]
+#[tactic(auto, unfolding(crate::specs::Judging::in_order, crate::specs::Judging::comes_after), using(crate::proofs::Records::order_at))]
 fn in_order(records: &[u8], i: usize) -> bool
     requires { i * 8 + 8 ≤ length records.now }
     ensures { result ≡ in_order records.now i }
 {
-    if i == 0 {
-        return true;
-    }
-    place_at(records, i - 1) < place_at(records, i)
+    i == 0 || place_at(records, i - 1) < place_at(records, i)
 }
 
-#[tactic(auto, unfolding(crate::specs::Judging::record_fits, model::specs::Lists::every), using(crate::proofs::Records::fragment_at_law, crate::proofs::Records::key_at))]
+#[tactic(auto, unfolding(crate::specs::Judging::record_fits, model::specs::Lists::every))]
 fn record_fits(records: &[u8], i: usize, account: Account) -> bool
     requires { i * 8 + 8 ≤ length records.now }
     ensures { result ≡ record_fits account.fragments account.keys records.now i }
 {
+    let (fragment, key) = place_at(records, i);
     (records[i * 8 + 1] == 0)
-        & (records[i * 8] < account.fragments)
-        & (wire::get::<u16>(records, i * 8 + 2) < account.keys)
+        & (fragment < account.fragments)
+        & (key < account.keys)
         & in_order(records, i)
 }
 
@@ -71,33 +62,28 @@ fn sections_fit(image: &[u8], t: Trailer) -> bool
     ensures { result ≡ sections_fit t image.now }
 {
     let account = t.account;
-    let a = (account.fragments as usize) * 8;
-    let b = a + (t.records as usize) * 8;
-    let held = Section::new(&image[b..], account.held as usize);
-    lot::streams_fit(image, account.fragments as usize, account.closed)
-        & records_fit(&image[a..], t.records as usize, account)
+    let a = usize::from(account.fragments) * 8;
+    let b = a + usize::from(t.records) * 8;
+    let held = Section::new(&image[b..], usize::from(account.held));
+    lot::streams_fit(image, usize::from(account.fragments), account.closed)
+        & records_fit(&image[a..], usize::from(t.records), account)
         & held::section_fits(account.limits(image), held)
 }
 
-// The numbers of the trailer of the image that data ends with, or none where it ends with no image. The signature is compared first, then the
-// trailer is judged, then followed back: as many last bytes are read as it says, and none before them.
+// The numbers of the trailer of the image that data ends with, or none where it ends with no image. The signature is compared first, then
+// the trailer is judged, then followed back: as many last bytes are read as it says, and none before them. (`as` takes u32 to usize, for
+// which std has no `From`.)
 pub fn judge_image(data: &[u8]) -> Option<Trailer>
     ensures { result ≡ judged_of «data».now }
 {
-    let n = data.len();
-    if n < Trailer::LENGTH {
-        return None;
-    }
-    let last = &data[n - Trailer::LENGTH..];
+    let last = data.last_chunk()?;
     if !trailer::is_signed(last) {
         return None;
     }
-    if !trailer::trailer_fits(last, n) {
+    if !trailer::trailer_fits(last, data.len()) {
         return None;
     }
     let t = Trailer::read(last);
-    if !sections_fit(&data[n - (t.length as usize)..], t) {
-        return None;
-    }
-    Some(t)
+    let image = &data[data.len() - t.length as usize..];
+    sections_fit(image, t).then_some(t)
 }

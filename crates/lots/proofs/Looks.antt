@@ -1,5 +1,5 @@
 -- What the calls learn from looks at lots is what the lots' views say. Assumes nothing.
-use Rattle.std.specs.Prelude.{if◌then◌else◌, Some, None, Err}
+use Rattle.std.specs.Prelude.{if◌then◌else◌, Option, Some, None, Err}
 use Rattle.std.specs.Option.{option_or}
 use Prim.Native.Nat.{ℕ, suc}
 use mathlib.Core.Path.{◌≡◌, refl, sym}
@@ -14,8 +14,8 @@ use Rattle.lot.specs.View.{Lot, free, damaged, holds, view_lot, account_in}
 use Rattle.lot.specs.Head.{numbers_of}
 use Rattle.lot.specs.Look.{look_of, look_as, finding}
 use Rattle.lot.proofs.Looked.{head_numbers_of}
-use Rattle.lots.specs.Memory.{lot_fits, lot_of, view_of, named, is_free, some_below, lowest_below}
-use Rattle.lots.specs.Looks.{look_from, finding_of, first_below, survey_of, with_look}
+use Rattle.lots.specs.Memory.{lot_fits, lot_of, view_of, named, is_free, is_damaged, some_below, lowest_below}
+use Rattle.lots.specs.Looks.{look_from, looks_damaged, looks_free, finding_of, first_below, is_named, looks_named, survey_of, with_look}
 
 look_is : (l : List ℕ) → look_of l ≡ look_from (view_lot l)
 unfolding look_of
@@ -56,12 +56,14 @@ first_more p n = go (some_below p n) (p n)
     go true b = refl
     go false b = refl
 
-module _ (m : List ℕ) (number : ℕ) where
-  one_more_law : (n : ℕ) (v : Lot) → view_of m n ≡ v → with_look (survey_of m number n) n (look_from v) number ≡ survey_of m number (suc n)
-  unfolding survey_of some_below
-  one_more_law n free e = rw (← first_more (λ i. is_free (view_of m i)) n) (rw e)
-  one_more_law n damaged e = rw (← first_more (λ i. is_free (view_of m i)) n) (rw e)
-  one_more_law n (holds a) e = rw (← first_more (λ i. is_free (view_of m i)) n) (rw e)
+seen : (account : Option ℕ) (v : Lot) → (looks_damaged (look_from v) ≡ is_damaged v) × (looks_named account (look_from v) ≡ is_named account v) × (looks_free (look_from v) ≡ is_free v)
+seen None free = (refl, refl, refl)
+seen None damaged = (refl, refl, refl)
+seen None (holds a) = (refl, refl, refl)
+seen (Some number) free = (refl, refl, refl)
+seen (Some number) damaged = (refl, refl, refl)
+seen (Some number) (holds a) = (refl, refl, refl)
 
-  pub survey_more : (n : ℕ) → with_look (survey_of m number n) n (look_from (view_of m n)) number ≡ survey_of m number (suc n)
-  survey_more n = one_more_law n (view_of m n) refl
+pub survey_more : (m : List ℕ) (account : Option ℕ) (n : ℕ) → with_look (survey_of m account n) n (look_from (view_of m n)) account ≡ survey_of m account (suc n)
+unfolding survey_of some_below
+survey_more m account n = let s = seen account (view_of m n) in rw (← first_more (λ i. is_free (view_of m i)) n, s.0, s.1, s.2)

@@ -51,19 +51,28 @@ finding_of (found a) = Ok (numbers_from a)
 abbrev pub first_below : (ℕ → Bool) → ℕ → Option ℕ
 first_below p n = if some_below p n then Some (lowest_below p n) else None
 
--- the first n lots, for a call that opens account `number`
-unfoldable pub survey_of : List ℕ → ℕ → ℕ → Survey
-survey_of m number n = record {
+-- a lot is that of the account, if one is named
+abbrev pub is_named : Option ℕ → Lot → Bool
+is_named None v = false
+is_named (Some number) v = is_of number v
+
+abbrev pub looks_named : Option ℕ → Look → Bool
+looks_named None l = false
+looks_named (Some number) l = looks_of number l
+
+-- the first n lots, for a call that opens the account, if one is named
+unfoldable pub survey_of : List ℕ → Option ℕ → ℕ → Survey
+survey_of m account n = record {
   damaged = some_below (λ i. is_damaged (view_of m i)) n;
-  known = some_below (λ i. is_of number (view_of m i)) n;
+  known = some_below (λ i. is_named account (view_of m i)) n;
   free = first_below (λ i. is_free (view_of m i)) n;
 }
 
 -- a survey and a look at lot i
-abbrev pub with_look : Survey → ℕ → Look → ℕ → Survey
-with_look s i l number = record {
+abbrev pub with_look : Survey → ℕ → Look → Option ℕ → Survey
+with_look s i l account = record {
   damaged = s.damaged || looks_damaged l;
-  known = s.known || looks_of number l;
+  known = s.known || looks_named account l;
   free = option_or s.free (if looks_free l then Some i else None);
 }
 

@@ -16,7 +16,7 @@ pub const MOST_LOTS: u32 = 16;
 
 // ---- one lot
 
-// Refusal 1.
+// Refusal 1. (`as` takes u32 to usize, for which std has no `From`.)
 pub fn memory_fits(memory: &[u8], lots: u32) -> bool
     ensures { result ≡ memory_fits lots memory.now }
 {
@@ -55,7 +55,7 @@ pub fn looks_damaged(look: Look) -> bool
 pub fn looks_of(look: Look, account: u32) -> bool
     ensures { result ≡ looks_of account look }
 {
-    matches!(look, Look::Holds(a) if a.number as u32 == account)
+    matches!(look, Look::Holds(a) if u32::from(a.number) == account)
 }
 
 // ---- a lot and an account are named
@@ -74,37 +74,30 @@ pub fn find(memory: &[u8], lots: u32, lot: u32, account: u32) -> Result<Account,
 
 // What a call that opens an account learns of all lots: some lot is damaged, the account is open in one, and the free lot with
 // the lowest number, if one is free.
-#[derive(Clone, Copy, Debug, PartialEq, Eq)]
+#[derive(Clone, Copy, Debug, Default, PartialEq, Eq)]
 pub struct Survey {
     pub damaged: bool,
     pub known: bool,
     pub free: Option<u32>,
 }
 
-fn with_look(s: Survey, i: u32, look: Look, account: u32) -> Survey
+fn with_look(s: Survey, i: u32, look: Look, account: Option<u32>) -> Survey
     ensures { result ≡ with_look s i look account }
 {
-    let free = if matches!(look, Look::Free) {
-        Some(i)
-    } else {
-        None
-    };
+    let free = matches!(look, Look::Free).then_some(i);
     Survey {
         damaged: s.damaged | looks_damaged(look),
-        known: s.known | looks_of(look, account),
+        known: s.known | account.is_some_and(|number| looks_of(look, number)),
         free: s.free.or(free),
     }
 }
 
-pub fn survey_lots(memory: &[u8], lots: u32, account: u32) -> Survey
+// A survey for no account finds none open.
+pub fn survey_lots(memory: &[u8], lots: u32, account: Option<u32>) -> Survey
     requires { lots * SIZE ≤ length memory.now }
     ensures { result ≡ survey_of memory.now account lots }
 {
-    let mut s = Survey {
-        damaged: false,
-        known: false,
-        free: None,
-    };
+    let mut s = Survey::default();
     for i in 0..lots {
         s = with_look(s, i, look_in(memory, i as usize), account);
     }

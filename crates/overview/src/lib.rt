@@ -11,7 +11,7 @@ use lot::Look;
 use model::Refusal;
 
 // One lot's line of the overview, as the desk lends it.
-#[derive(Clone, Copy, Debug, PartialEq, Eq)]
+#[derive(Clone, Copy, Debug, Default, PartialEq, Eq)]
 pub struct Row {
     pub account: u32,
     pub closed: u32,
@@ -23,22 +23,15 @@ fn row_of(look: Look) -> Row
     ensures { result ≡ row_from look }
 {
     match look {
-        Look::Free => Row {
-            account: 0,
-            closed: 0,
-            held: 0,
-            damaged: 0,
-        },
+        Look::Free => Row::default(),
         Look::Damaged => Row {
-            account: 0,
-            closed: 0,
-            held: 0,
             damaged: 1,
+            ..Row::default()
         },
         Look::Holds(a) => Row {
-            account: a.number as u32,
+            account: u32::from(a.number),
             closed: a.closed,
-            held: a.held as u32,
+            held: u32::from(a.held),
             damaged: 0,
         },
     }
@@ -53,7 +46,8 @@ fn row_in(memory: &[u8], lot: usize) -> Row
 
 // (A row's fields, and lot and memory as parameters, are the C interface: numbers and byte slices.)
 
-// The same for a caller that lends no rows: the row of one lot, and that of a free one where there is no such lot.
+// The same for a caller that lends no rows: the row of one lot, and that of a free one where there is no such lot. (`as` takes u32 to
+// usize, for which std has no `From`.)
 pub fn row_at(memory: &[u8], lots: u32, lot: u32) -> Row
     ensures { result ≡ row_at memory.now lots lot }
 {
@@ -81,8 +75,8 @@ pub fn overview(memory: &[u8], lots: u32, rows: &mut [Row]) -> Result<(), Refusa
     ensures { Overviewed memory.now lots rows.old rows.new result }
 {
     overview_answer(memory, lots, rows.len())?;
-    for i in 0..lots as usize {
-        rows[i] = row_in(memory, i);
+    for (i, row) in rows[..lots as usize].iter_mut().enumerate() {
+        *row = row_in(memory, i);
     }
     Ok(())
 }

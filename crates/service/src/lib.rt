@@ -26,7 +26,9 @@ fn pack<A: Answer>(answer: A) -> u64
     ensures { result ≡ packed (A.numbers_of answer) }
 {
     let n = answer.numbers();
-    (n.number % 256) as u64 + 256 * ((n.first % 16777216) as u64) + 4294967296 * (n.second as u64)
+    u64::from(n.number % 256)
+        + 256 * u64::from(n.first % 16777216)
+        + 4294967296 * u64::from(n.second)
 }
 
 // ---- the calls whose buffers are plain bytes
@@ -93,7 +95,7 @@ fn room_in(bytes: usize) -> usize
     }
 }
 
-// How many numbers a close has written.
+// How many numbers a close has written. (`as` takes u32 to usize, for which std has no `From`.)
 fn written_by(closed: Result<u32, Refusal>) -> usize
     ensures { result ≡ written_by closed }
 {
@@ -108,8 +110,8 @@ fn put_numbers(bytes: &mut [u8], numbers: &[u32])
     requires { length numbers.now * 4 ≤ length bytes.old }
     ensures { Written bytes.old bytes.new 0 (length numbers.now * 4) (each bytes32 numbers.now) }
 {
-    for i in 0..numbers.len() {
-        wire::put(bytes, i * 4, numbers[i]);
+    for (i, &number) in numbers.iter().enumerate() {
+        wire::put(bytes, i * 4, number);
     }
 }
 
@@ -126,7 +128,7 @@ fn close_list(
     ensures { ListClosed memory.old memory.new lots lot account list.old list.new result }
 {
     let room = room_in(list.len());
-    let closed = standby::close_epoch(memory, lots, lot, account, &mut numbers[0..room]);
+    let closed = standby::close_epoch(memory, lots, lot, account, &mut numbers[..room]);
     put_numbers(list, &numbers[..written_by(closed)]);
     closed
 }
@@ -134,7 +136,7 @@ fn close_list(
 pub fn standby_close(memory: &mut [u8], lots: u32, lot: u32, account: u32, list: &mut [u8]) -> u64
     ensures { Answered closed_numbers (ListClosed memory.old memory.new lots lot account list.old list.new) result }
 {
-    let mut numbers = [0u32; 512];
+    let mut numbers = [0; closing::LEAST_LIST];
     pack(close_list(memory, lots, lot, account, list, &mut numbers))
 }
 

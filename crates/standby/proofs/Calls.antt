@@ -71,7 +71,7 @@ module _ (m : List ℕ) (lots : ℕ) where
           rw (← s) (record { lowest_free = w; inside = omega (arith, memory_long lots m there, w.below) })
 
   -- what a survey of all lots answers
-  pub placed : (number : ℕ) → place_in (survey_of m number lots) ≡ place_for m lots number
+  pub placed : (number : ℕ) → place_in (survey_of m (Some number) lots) ≡ place_for m lots number
   unfolding survey_of place_for
   placed number = go (some_below (λ j. is_of number (view_of m j)) lots) (some_below (λ j. is_free (view_of m j)) lots)
     where
@@ -91,16 +91,16 @@ module _ (m : List ℕ) (lots number f k : ℕ) where
   open_nowhere e = rw e
 
   module _ (there : memory_fits lots m ≡ true) where
-    pub open_damaged : (survey_of m number lots).damaged ≡ true → Err Damaged ≡ open_answer m lots number f k
+    pub open_damaged : (survey_of m (Some number) lots).damaged ≡ true → Err Damaged ≡ open_answer m lots number f k
     unfolding open_answer survey_of
     open_damaged e = rw (there, e)
 
-    module _ (whole : (survey_of m number lots).damaged ≡ false) where
+    module _ (whole : (survey_of m (Some number) lots).damaged ≡ false) where
       pub open_unfit : account_fits number f k ≡ false → Err UnfitAccount ≡ open_answer m lots number f k
       unfolding open_answer survey_of
       open_unfit e = rw (there, whole, e)
 
-      pub open_placed : account_fits number f k ≡ true → place_in (survey_of m number lots) ≡ open_answer m lots number f k
+      pub open_placed : account_fits number f k ≡ true → place_in (survey_of m (Some number) lots) ≡ open_answer m lots number f k
       unfolding open_answer survey_of
       open_placed e = rw (there, whole, e) (placed m lots number)
 

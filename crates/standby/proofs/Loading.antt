@@ -1,20 +1,17 @@
 -- What each return of load answers, and what it leaves of the memory. Assumes nothing.
-use Prim.Native.Nat.{ℕ, ◌-◌}
+use Prim.Native.Nat.{ℕ}
 use mathlib.Core.Path.{◌≡◌, refl, sym, ap, ◌∙◌}
 use mathlib.Core.Bool.{Bool, true, false, not}
 use mathlib.Core.List.{List}
-use lib.ListN.{length}
-use Rattle.std.specs.Prelude.{if◌then◌else◌, Option, Some, None, Result, Ok, Err}
+use Rattle.std.specs.Prelude.{if◌then◌else◌, Option, Some, None, Result, Ok, Err, ok_or}
+use Rattle.std.specs.Option.{IsSomeAnd}
 use Rattle.model.specs.Account.{Account}
-use Rattle.model.specs.Decoding.{last_of, load}
+use Rattle.model.specs.Decoding.{load}
 use Rattle.model.specs.declared.Refusal.TheVariants as refusal
 use Rattle.model.proofs.Tests.{no_way}
 use Rattle.model.specs.declared.Refusal.{Refusal}
-use Rattle.trailer.specs.Trailer.{numbers_of}
 use Rattle.trailer.specs.declared.Trailer.{Trailer}
 use Rattle.judging.specs.Judging.{trailer_of, judged_as, judged_of}
-use Rattle.judging.proofs.Parts.{Bytes}
-use Rattle.judging.proofs.Passing.{last_part, part_from_law, accepted_numbers}
 use Rattle.lots.specs.Memory.{memory_fits, view_of, is_damaged, some_below}
 use Rattle.lots.specs.Looks.{survey_of, place_in}
 use Rattle.standby.specs.Images.{load_from, load_answer}
@@ -45,39 +42,43 @@ module _ (given : List ℕ) where
       go None q e = refl
       go (Some a) q e = no_way cc
 
-  -- the numbers in the last 24 bytes are those of the account
-  pub trailer_numbers : Bytes given → {a : Account} → load given ≡ Some a → judged_of given ≡ Some (numbers_of (last_of 24 given))
-  unfolding judged_of
-  trailer_numbers b {a} e = let q : judged_of given ≡ Some (trailer_of a) = rw e in q ∙ ap Some (accepted_numbers given (trailer_of a) b q)
+-- what `ok_or` told of it
+pub not_judged : (o : Option Trailer) {r : Refusal} → Err r ≡ ok_or o refusal.NotAccepted → (o ≡ None) × (r ≡ refusal.NotAccepted)
+not_judged None e = (refl, cc)
+not_judged (Some t) e = no_way cc
 
-  pub trailer_read : {t : Trailer} → t ≡ numbers_of (last_part given) → judged_of given ≡ Some (numbers_of (last_of 24 given)) → judged_of given ≡ Some t
-  unfolding last_of
-  trailer_read e q = q ∙ ap Some (sym (e ∙ ap numbers_of (part_from_law given (length given - 24))))
+pub is_judged : (o : Option Trailer) {t : Trailer} → Ok t ≡ ok_or o refusal.NotAccepted → o ≡ Some t
+is_judged None e = no_way cc
+is_judged (Some t) e = cc
+
+pub some_holds : (o : Option ℕ) (P : ℕ → Type 0) (n : ℕ) → IsSomeAnd o P → ((r : ℕ) → P r → r ≡ n) → o ≡ Some n
+some_holds None P n w f = absurd w
+some_holds (Some r) P n w f = ap Some (f r w)
 
 -- ---- the answers
 
 module _ (m : List ℕ) (lots : ℕ) (given : List ℕ) where
-  pub load_nowhere : memory_fits lots m ≡ false → Err refusal.NoSuchLot ≡ load_answer m lots given
+  pub load_nowhere : memory_fits lots m ≡ false → load_answer m lots given ≡ Err refusal.NoSuchLot
   unfolding load_answer
   load_nowhere e = rw e
 
-  -- number: the account of the data, if they show one
-  module _ (there : memory_fits lots m ≡ true) (number : ℕ) where
-    pub load_damaged : (survey_of m number lots).damaged ≡ true → Err refusal.Damaged ≡ load_answer m lots given
+  -- account: that of the data, if they show one
+  module _ (there : memory_fits lots m ≡ true) (account : Option ℕ) where
+    pub load_damaged : (survey_of m account lots).damaged ≡ true → load_answer m lots given ≡ Err refusal.Damaged
     unfolding load_answer survey_of
     load_damaged e = rw (there, e)
 
-    module _ (whole : (survey_of m number lots).damaged ≡ false) where
-      pub load_refused : judged_of given ≡ None → Err refusal.NotAccepted ≡ load_answer m lots given
+    module _ (whole : (survey_of m account lots).damaged ≡ false) where
+      pub load_refused : judged_of given ≡ None → load_answer m lots given ≡ Err refusal.NotAccepted
       unfolding load_answer survey_of
       load_refused e = rw (there, whole, refused_shows given e)
 
-      pub load_placed : {t : Trailer} → judged_of given ≡ Some t → number ≡ t.account.number → place_in (survey_of m number lots) ≡ load_answer m lots given
+      pub load_placed : {t : Trailer} → judged_of given ≡ Some t → account ≡ Some t.account.number → load_answer m lots given ≡ place_in (survey_of m account lots)
       unfolding load_answer survey_of trailer_of
       load_placed e q =
           let s = accepted_shows given e in
-          let n : s.account.number ≡ number = sym (q ∙ ap (λ t. t.account.number) s.numbers) in
-          rw (there, whole, s.is_loaded, n) (placed m lots number)
+          let n : account ≡ Some s.account.number = q ∙ ap (λ t. Some t.account.number) s.numbers in
+          rw (there, whole, s.is_loaded, n) (sym (placed m lots s.account.number))
 
   -- where data are loaded there is such a lot, and they show an account
   pub record Loading (i : ℕ) : Type 0 where

@@ -1,8 +1,10 @@
--- What load learns from judged data.
-use Rattle.std.specs.Prelude.{ℕ, Option, Some, None}
+-- What load learns before it writes: the lot to load into, and the numbers of the judged image.
+use Rattle.std.specs.Prelude.{ℕ, ◌≡◌, List, Some, Result, Ok, Err}
+use Rattle.model.specs.declared.Refusal.{Refusal}
 use Rattle.trailer.specs.declared.Trailer.{Trailer}
+use Rattle.judging.specs.Judging.{judged_of}
+use Rattle.standby.specs.Images.{load_answer}
 
--- the number of the account that the data show, 0 where they show none
-abbrev pub number_judged : Option Trailer → ℕ
-number_judged None = 0
-number_judged (Some t) = t.account.number
+abbrev pub LoadJudged : List ℕ → ℕ → List ℕ → Result (ℕ × Trailer) Refusal → Type 0
+LoadJudged m lots given (Ok (lot, t)) = (load_answer m lots given ≡ Ok lot) × (judged_of given ≡ Some t)
+LoadJudged m lots given (Err r) = load_answer m lots given ≡ Err r

@@ -7,7 +7,6 @@
 ghost use Rattle.std.specs.Prelude.{◌≡◌, ◌+◌, ◌*◌, ◌≤◌, ◌<◌, length, Some, Ok};
 ghost use Rattle.model.specs.Account.{MOST_FRAGMENTS, MOST_KEYS};
 ghost use Rattle.model.specs.Image.{LONGEST_IMAGE};
-ghost use Rattle.model.specs.Decoding.{last_of};
 ghost use Rattle.model.specs.Taking.{deliver_to};
 ghost use Rattle.model.specs.Closing.{close_from};
 ghost use Rattle.lot.specs.Layout.{SIZE, records_of};
@@ -15,14 +14,13 @@ ghost use Rattle.lot.specs.View.{record_at, account_in};
 ghost use Rattle.lot.specs.Writing.{found_of};
 ghost use Rattle.lot.specs.declared.Look.TheVariants.{Holds};
 ghost use Rattle.image.specs.Saving.{LotSaved};
-ghost use Rattle.trailer.specs.Trailer.{numbers_of};
 ghost use Rattle.judging.specs.Judging.{judged_of};
 ghost use Rattle.lots.specs.Memory.{lot_of, view_of};
 ghost use Rattle.lots.specs.Looks.{look_from};
 ghost use Rattle.standby.specs.Calls.{AllFree, Started, open_answer, AccountOpened, TakenBy, Delivered, read_answer, Dropped};
 ghost use Rattle.standby.specs.Closing.{ClosedAs, EpochClosed};
-ghost use Rattle.standby.specs.Images.{AccountSaved, load_answer, LoadedAs, AccountLoaded};
-ghost use Rattle.standby.specs.Loading.{number_judged};
+ghost use Rattle.standby.specs.Images.{AccountSaved, LoadedAs, AccountLoaded};
+ghost use Rattle.standby.specs.Loading.{LoadJudged};
 
 use model::Refusal;
 use trailer::Trailer;
@@ -32,6 +30,7 @@ use trailer::Trailer;
 
 // ---- start
 
+// Each lot by its index: of a slice that `chunks_exact_mut` lends in parts, std's contract says only its length afterwards.
 fn free_lots(memory: &mut [u8], n: usize)
     requires { n * SIZE ≤ length memory.old }
     ensures { AllFree n memory.old memory.new }
@@ -41,6 +40,7 @@ fn free_lots(memory: &mut [u8], n: usize)
     }
 }
 
+// (`as` takes u32 to usize, for which std has no `From`, and in `open_account` what was judged to fit to its own type.)
 pub fn start(memory: &mut [u8], lots: u32) -> Result<(), Refusal>
     ensures { Started memory.old memory.new lots result }
 {
@@ -65,7 +65,7 @@ fn open_answer(
     if !lots::memory_fits(memory, lots) {
         return Err(Refusal::NoSuchLot);
     }
-    let s = lots::survey_lots(memory, lots, account);
+    let s = lots::survey_lots(memory, lots, Some(account));
     if s.damaged {
         return Err(Refusal::Damaged);
     }
@@ -169,7 +169,7 @@ pub fn read_record(
     ensures { result ≡ read_answer memory.now lots lot account fragment key }
 {
     let a = lots::find(memory, lots, lot, account)?;
-    if (fragment < a.fragments as u32) & (key < a.keys as u32) {
+    if (fragment < u32::from(a.fragments)) & (key < u32::from(a.keys)) {
         Ok(record_in(memory, lot as usize, fragment as usize, key as usize))
     } else {
         Err(Refusal::OutsideAccount)
@@ -204,51 +204,39 @@ pub fn save_account(
 
 // ---- load
 
-// The number of the account that the data show. Where they show none it is 0, which no account has, and no Option: a survey of
-// `Option<u32>` would ask at each lot whether an account is looked for, `account.is_some_and(|n| looks_of(look, n))`.
-fn number_judged(judged: Option<Trailer>) -> u32
-    ensures { result ≡ number_judged judged }
-{
-    match judged {
-        None => 0,
-        Some(t) => t.account.number as u32,
-    }
-}
-
-// The data are judged before the lots are looked at, so that one look at each lot also tells whether the account is open.
-fn load_answer(memory: &[u8], lots: u32, data: &[u8]) -> Result<u32, Refusal>
-    ensures { result ≡ load_answer memory.now lots «data».now }
+// The lot to load into, and the numbers of the image. The data are judged before the lots are looked at, so that one look at each lot
+// also tells whether the account is open.
+fn load_answer(memory: &[u8], lots: u32, data: &[u8]) -> Result<(u32, Trailer), Refusal>
+    ensures { LoadJudged memory.now lots «data».now result }
 {
     if !lots::memory_fits(memory, lots) {
         return Err(Refusal::NoSuchLot);
     }
     let judged = judging::judge_image(data);
-    let survey = lots::survey_lots(memory, lots, number_judged(judged));
+    let survey = lots::survey_lots(memory, lots, judged.map(|t| u32::from(t.account.number)));
     if survey.damaged {
         return Err(Refusal::Damaged);
     }
-    match judged {
-        None => Err(Refusal::NotAccepted),
-        Some(_) => lots::place_in(survey),
-    }
+    let t = judged.ok_or(Refusal::NotAccepted)?;
+    let lot = lots::place_in(survey)?;
+    Ok((lot, t))
 }
 
-// Loads accepted data into one lot.
-fn load_in(memory: &mut [u8], lot: usize, data: &[u8])
-    requires { (lot * SIZE + SIZE ≤ length memory.old) × (judged_of «data».now ≡ Some (numbers_of (last_of 24 «data».now))) }
+// Loads accepted data into one lot; t is what judging the data found.
+fn load_in(memory: &mut [u8], lot: usize, data: &[u8], t: Trailer)
+    requires { (lot * SIZE + SIZE ≤ length memory.old) × (judged_of «data».now ≡ Some t) }
     ensures { LoadedAs memory.old memory.new «data».now (Ok lot) }
 {
     let a = lot * lot::SIZE;
     let e = a + lot::SIZE;
-    let t = Trailer::read(&data[data.len() - Trailer::LENGTH..]);
     image::load_lot(&mut memory[a..e], data, t);
 }
 
 pub fn load_account(memory: &mut [u8], lots: u32, data: &[u8]) -> Result<u32, Refusal>
     ensures { AccountLoaded memory.old memory.new lots «data».now result }
 {
-    let lot = load_answer(memory, lots, data)?;
-    load_in(memory, lot as usize, data);
+    let (lot, t) = load_answer(memory, lots, data)?;
+    load_in(memory, lot as usize, data, t);
     Ok(lot)
 }
 

@@ -2,12 +2,10 @@
 // It stands on `wire`, `model`, and `lot` for the limits of an account.
 #![tactic(auto)]
 
-ghost use Rattle.std.specs.Prelude.{◌≡◌, ◌≤◌, ◌++◌, length, drop};
-ghost use Rattle.trailer.specs.Trailer.{numbers_of, count_bytes, trailer_bytes, signed, image_length, trailer_fits};
+ghost use Rattle.std.specs.Prelude.{◌≡◌};
+ghost use Rattle.trailer.specs.Trailer.{numbers_of, trailer_bytes, signed, image_length, trailer_fits};
 
 use lot::Account;
-
-// A trailer is lent as a slice of data, 24 bytes long: `&[u8; 24]` would come from `last_chunk`, with a `None` that can't be.
 
 // What an image ends with.
 const SIGNATURE: [u8; 4] = *b"EPB1";
@@ -24,8 +22,7 @@ impl Trailer {
     pub const LENGTH: usize = 24;
 
     #[tactic(auto, unfolding(crate::specs::Trailer::numbers_of))]
-    pub fn read(bytes: &[u8]) -> Trailer
-        requires { length bytes.now ≡ 24 }
+    pub fn read(bytes: &[u8; Trailer::LENGTH]) -> Trailer
         ensures { result ≡ numbers_of bytes.now }
     {
         Trailer {
@@ -40,12 +37,26 @@ impl Trailer {
             length: wire::get(bytes, 16),
         }
     }
+
+    pub fn to_bytes(self) -> [u8; Trailer::LENGTH]
+        ensures { result ≡ trailer_bytes self }
+    {
+        let mut bytes = [0; Trailer::LENGTH];
+        wire::put(&mut bytes, 0, self.account.number);
+        bytes[2] = self.account.fragments;
+        wire::put(&mut bytes, 4, self.account.keys);
+        wire::put(&mut bytes, 6, self.records);
+        wire::put(&mut bytes, 8, self.account.held);
+        wire::put(&mut bytes, 12, self.account.closed);
+        wire::put(&mut bytes, 16, self.length);
+        bytes[20..].copy_from_slice(&SIGNATURE);
+        bytes
+    }
 }
 
 // Whether a trailer ends with the signature.
 #[tactic(auto, using(crate::proofs::Trailers::ends_signed))]
-pub fn is_signed(bytes: &[u8]) -> bool
-    requires { length bytes.now ≡ 24 }
+pub fn is_signed(bytes: &[u8; Trailer::LENGTH]) -> bool
     ensures { result ≡ signed bytes.now }
 {
     bytes.ends_with(&SIGNATURE)
@@ -55,45 +66,24 @@ pub fn is_signed(bytes: &[u8]) -> bool
 pub fn image_length(account: Account, records: u16) -> u32
     ensures { result ≡ image_length account.fragments records account.held }
 {
-    (account.fragments as u32) * 8 + (records as u32) * 8 + (account.held as u32) * 20 + 24
+    u32::from(account.fragments) * 8 + u32::from(records) * 8 + u32::from(account.held) * 20 + 24
 }
 
-// Whether a signed trailer fits by itself, at the end of n bytes of data.
+// Whether a signed trailer fits by itself, at the end of n bytes of data. (`as` takes u32 to usize, for which std has no `From`.)
 #[tactic(auto, unfolding(crate::specs::Trailer::trailer_fits, model::specs::Lists::every))]
-pub fn trailer_fits(bytes: &[u8], n: usize) -> bool
-    requires { length bytes.now ≡ 24 }
+pub fn trailer_fits(bytes: &[u8; Trailer::LENGTH], n: usize) -> bool
     ensures { result ≡ trailer_fits n bytes.now }
 {
     let t = Trailer::read(bytes);
     let a = t.account;
     (bytes[3] == 0)
         & (wire::get::<u16>(bytes, 10) == 0)
-        & lot::account_fits(a.number as u32, a.fragments as u32, a.keys as u32)
+        & lot::account_fits(
+            u32::from(a.number),
+            u32::from(a.fragments),
+            u32::from(a.keys),
+        )
         & (a.held <= Account::MOST_HELD)
         & (t.length == image_length(a, t.records))
-        & ((t.length as usize) <= n)
-}
-
-// Writes the first 12 bytes of a trailer.
-#[tactic(auto, using(crate::proofs::Trailers::counts_written))]
-fn write_counts(bytes: &mut [u8], t: Trailer)
-    requires { length bytes.old ≡ 24 }
-    ensures { bytes.new ≡ count_bytes t ++ drop 12 bytes.old }
-{
-    wire::put(bytes, 0, t.account.number);
-    wire::put(bytes, 2, t.account.fragments as u16);
-    wire::put(bytes, 4, t.account.keys);
-    wire::put(bytes, 6, t.records);
-    wire::put(bytes, 8, t.account.held);
-    wire::put(bytes, 10, 0u16);
-}
-
-pub fn write_trailer(bytes: &mut [u8], t: Trailer)
-    requires { length bytes.old ≡ 24 }
-    ensures { bytes.new ≡ trailer_bytes t }
-{
-    write_counts(bytes, t);
-    wire::put(bytes, 12, t.account.closed);
-    wire::put(bytes, 16, t.length);
-    wire::copy(&SIGNATURE, &mut bytes[20..24]);
+        & (t.length as usize <= n)
 }

@@ -20,5 +20,5 @@ pub returns : goal.returns
 returns c =
     let w = c.sections.ensures in
     let same = sym (c.bytes.ensures.same_buffer ∙ w.0.same_buffer) in
-    lot_saved c.args.lot.now c.args.account c.trailer_behind-t.result c.requires.1 c.requires.0 (λ i. omega (arith, c.type_inv.lot i)) (sections_saved w.0.written w.1) c.bytes.ensures.written c.trailer_behind-t.ensures c.write_trailer.ensures
+    lot_saved c.args.lot.now c.args.account c.trailer_behind-t.result c.requires.1 c.requires.0 (λ i. omega (arith, c.type_inv.lot i)) (sections_saved w.0.written w.1) c.bytes.ensures.written c.trailer_behind-t.ensures c.to_bytes.ensures
     (search (rules, same))

@@ -4,4 +4,4 @@ use Rattle.overview.specs.Overview.{rows_with}
 use Rattle.overview.proofs.overview.Given as goal
 
 abbrev pub invariant-loop-i : goal.invariant-loop-i
-invariant-loop-i l = l.rows ≡ rows_with l.memory l.initial.rows l.i
+invariant-loop-i l = l.row-items ≡ rows_with l.memory l.initial.row-items l.i

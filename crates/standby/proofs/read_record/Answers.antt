@@ -8,7 +8,7 @@ use Rattle.standby.proofs.read_record.Goals as goal
 pub record_in-requires : goal.record_in-requires
 record_in-requires c =
     let a = c.args in
-    read_limits a.memory.now a.lots a.lot a.account a.fragment a.key _ (sym c.in_ok-a.ensures) c.if-fragment-a.true
+    read_limits a.memory.now a.lots a.lot a.account a.fragment a.key _ (sym c.in_ok-a.ensures) (rw (c.from.ensures, c.from-2.ensures) at c.if-fragment-from.true)
 
 pub returns-in_err-a : goal.returns-in_err-a
 returns-in_err-a c =
@@ -16,12 +16,12 @@ returns-in_err-a c =
     let e = err_from_is_err_and c.from_residual.result c.from_residual.ensures.1 in
     rw (e.1, e.2) (read_refused a.memory.now a.lots a.lot a.account a.fragment a.key (sym c.in_err-a.ensures))
 
-pub returns-then-fragment-a : goal.returns-then-fragment-a
-returns-then-fragment-a c =
+pub returns-then-fragment-from : goal.returns-then-fragment-from
+returns-then-fragment-from c =
     let a = c.args in
-    ap Ok c.record_in.ensures ∙ read_found a.memory.now a.lots a.lot a.account a.fragment a.key _ (sym c.in_ok-a.ensures) c.if-fragment-a.true
+    ap Ok c.record_in.ensures ∙ read_found a.memory.now a.lots a.lot a.account a.fragment a.key _ (sym c.in_ok-a.ensures) (rw (c.from.ensures, c.from-2.ensures) at c.if-fragment-from.true)
 
-pub returns-else-fragment-a : goal.returns-else-fragment-a
-returns-else-fragment-a c =
+pub returns-else-fragment-from : goal.returns-else-fragment-from
+returns-else-fragment-from c =
     let a = c.args in
-    read_outside a.memory.now a.lots a.lot a.account a.fragment a.key _ (sym c.in_ok-a.ensures) c.if-fragment-a.false
+    read_outside a.memory.now a.lots a.lot a.account a.fragment a.key _ (sym c.in_ok-a.ensures) (rw (c.from.ensures, c.from-2.ensures) at c.if-fragment-from.false)

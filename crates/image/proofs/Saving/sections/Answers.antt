@@ -10,9 +10,9 @@ use Rattle.image.proofs.Saving.sections.Goals as goal
 
 pub returns : goal.returns
 returns c =
-    let u = c.bytes.ensures in
+    let u = rw c.from.ensures at c.bytes.ensures in
     let v = rw (records_part c.args.lot.now c.requires.0) at c.records.ensures.0 in
-    let w = c.bytes-2.ensures in
+    let w = rw c.from-2.ensures at c.bytes-2.ensures in
     let streams = length-take (c.args.account.fragments * 8) (streams_of c.args.lot.now) in
     let places = length-take (c.args.account.held * 20) (places_of c.args.lot.now) in (
       record { same_buffer = w.same_buffer ∙ v.same_buffer ∙ u.same_buffer; written = sections_written (omega arith) u.written v.written w.written },
