@@ -1,5 +1,6 @@
 -- What a close prints: the epoch that is now closed, then its pieces in the order of the list. Assumes nothing.
-use Rattle.std.specs.Prelude.{Result, Ok, Err}
+use Rattle.std.specs.Prelude.{Option, Some, None, Result, Ok, Err}
+use Rattle.std.specs.Result.{result_ok}
 use Prim.Native.Nat.{ℕ, suc, ◌+◌, ◌*◌, ◌≤◌}
 use mathlib.Core.Path.{◌≡◌, refl, ap, sym, ◌∙◌}
 use mathlib.Core.Bool.{true}
@@ -47,6 +48,15 @@ judged_count : (o : Result (Unit {0}) Refusal) (n count : ℕ) → close_judged 
 judged_count (Ok tt) n count e = cc
 judged_count (Err r) n count e = no_way cc
 
+-- what `ok` tells of an answer
+pub counted_law : (r : Result ℕ Refusal) {count : ℕ} → Some count ≡ result_ok r → r ≡ Ok count
+counted_law (Ok n) e = cc
+counted_law (Err why) e = no_way cc
+
+refused_law : (r : Result ℕ Refusal) → None ≡ result_ok r → (why : Refusal) × (r ≡ Err why)
+refused_law (Ok n) e = no_way cc
+refused_law (Err why) e = (why, refl)
+
 pub same_fit : (m m' : List ℕ) → length m' ≡ length m → lot_fits 1 0 m' ≡ lot_fits 1 0 m
 unfolding lot_fits memory_fits
 same_fit m m' e = rw e
@@ -56,10 +66,11 @@ module _ {m m' list list' : List ℕ} (number : ℕ) {r : Result ℕ Refusal} (w
   unfolding standby.close_answer
   answered = w.answer ∙ ap (close_from (named m 1 0 number)) long
 
-  pub not_closed : {out : List ℕ} {why : Refusal} → r ≡ Err why → out ≡ [] → NextClosed m m' number out
-  not_closed {out} {why} e p =
-      let s : close_answer m number ≡ Err why = sym answered ∙ e in
-      record { closed = rw s (rw e at w.closed).0; printed = rw s p }
+  pub not_closed : {out : Option (List ℕ)} → None ≡ result_ok r → out ≡ None → NextClosed m m' number out
+  not_closed {out} none p =
+      let q = refused_law r none in
+      let s : close_answer m number ≡ Err q.0 = sym answered ∙ q.1 in
+      record { closed = rw s (rw q.1 at w.closed).0; printed = rw s p }
 
   -- the account of which an epoch was closed
   pub record Of (count : ℕ) : Type 0 where
@@ -94,11 +105,11 @@ module _ {m m' list list' : List ℕ} (number : ℕ) {r : Result ℕ Refusal} (w
       let o = closed_of_law e in
       omega (arith, h, ap length o.pieces ∙ length-append (pairs (listed o.account)) (drop (2 * count) list), length_numbers (listed o.account), o.counted)
 
-  pub epoch_printed : {between out : List ℕ} {count : ℕ} {row : Row} → r ≡ Ok count → row ≡ row_at m' 1 0 → between ≡ epoch_line row.closed count → out ≡ between ++ pairs_text count list' → NextClosed m m' number out
+  pub epoch_printed : {between out : List ℕ} {count : ℕ} {row : Row} → r ≡ Ok count → row ≡ row_at m' 1 0 → between ≡ epoch_line row.closed count → out ≡ between ++ pairs_text count list' → NextClosed m m' number (Some out)
   unfolding closed_text
   epoch_printed {between} {out} {count} {row} e there first second =
       let o = closed_of_law e in
       let s : close_answer m number ≡ Ok count = sym answered ∙ e in
       let line : epoch_line row.closed count ≡ epoch_line (suc o.account.closed) (length (listed o.account)) =
       ap (λ x. epoch_line x.closed count) there ∙ ap (λ n. epoch_line n count) o.row ∙ ap (epoch_line (suc o.account.closed)) o.counted in
-      record { closed = rw s o.left; printed = rw (s, o.is_named) (second ∙ rw (first ∙ line, lines_of_list _ _ _ _ o.counted o.pieces)) }
+      record { closed = rw s o.left; printed = rw (s, o.is_named) (ap Some (second ∙ rw (first ∙ line, lines_of_list _ _ _ _ o.counted o.pieces))) }

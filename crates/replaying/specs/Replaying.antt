@@ -7,6 +7,7 @@ use Rattle.model.specs.Closing.{close, Piece, listed, LEAST_LIST, close_from}
 use Rattle.model.specs.Image.{Present, form, each}
 use Rattle.model.specs.Answers.{refusal_numbers}
 use Rattle.model.specs.declared.Refusal.{Refusal}
+use Rattle.model.specs.declared.Refusal.TheVariants.{UnfitAccount}
 use Rattle.lot.specs.View.{holds}
 use Rattle.lots.specs.Memory.{view_of, OnlyLot, named}
 use Rattle.standby.specs.Calls.{open_answer, AccountOpened, deliver_answer, Delivered, read_answer}
@@ -16,32 +17,41 @@ use Rattle.replaying.specs.declared.Header.{Header}
 abbrev pub number_of : Refusal → ℕ
 number_of r = (refusal_numbers r).number
 
--- ---- the header: account 2 bytes, f 1, k 1; one under 4 bytes is as unfit as account 0
+-- ---- the header: account 2 bytes, f 1, k 1; one under 4 bytes is refused by 15
 
-unfoldable pub header_of : List ℕ → Header
+unfoldable pub header_of : List ℕ → Result Header Refusal
 header_of bytes =
-    if ltb (length bytes) 4 then record { account = 0; fragments = 0; keys = 0 }
-    else record { account = number16 bytes 0; fragments = get_or bytes 2 0; keys = get_or bytes 3 0 }
-
--- a refused header is printed
-abbrev pub open_text : Result ℕ Refusal → List ℕ
-open_text (Ok lot) = []
-open_text (Err r) = open_line (number_of r)
+    if ltb (length bytes) 4 then Err UnfitAccount
+    else Ok (record { account = number16 bytes 0; fragments = get_or bytes 2 0; keys = get_or bytes 3 0 })
 
 abbrev pub answer_to : List ℕ → Header → Result ℕ Refusal
 answer_to m h = open_answer m 1 h.account h.fragments h.keys
 
-pub record HeaderOpened (m m' : List ℕ) (h : Header) (out : List ℕ) : Type 0 where
-  pub opened : AccountOpened m m' 1 h.account h.fragments h.keys (answer_to m h)
-  pub printed : out ≡ open_text (answer_to m h)
+-- the account of a header is opened; a refused one changes nothing
+abbrev pub OpenedBy : List ℕ → List ℕ → Result Header Refusal → Type 0
+OpenedBy m m' (Ok h) = AccountOpened m m' 1 h.account h.fragments h.keys (answer_to m h)
+OpenedBy m m' (Err r) = m' ≡ m
 
--- ---- an entry: a refused one is printed, with its index
+-- the header that is opened, or the line of the refusal
+abbrev pub open_text : Header → Result ℕ Refusal → Result Header (List ℕ)
+open_text h (Ok lot) = Ok h
+open_text h (Err r) = Err (open_line (number_of r))
 
-abbrev pub entry_text : ℕ → Result (Unit {0}) Refusal → List ℕ
-entry_text index (Ok tt) = []
-entry_text index (Err r) = entry_line index (number_of r)
+abbrev pub header_text : List ℕ → Result Header Refusal → Result Header (List ℕ)
+header_text m (Ok h) = open_text h (answer_to m h)
+header_text m (Err r) = Err (open_line (number_of r))
 
-pub record EntryDelivered (m m' : List ℕ) (number index : ℕ) (bytes out : List ℕ) : Type 0 where
+pub record HeaderOpened (m m' : List ℕ) (header : Result Header Refusal) (out : Result Header (List ℕ)) : Type 0 where
+  pub opened : OpenedBy m m' header
+  pub printed : out ≡ header_text m header
+
+-- ---- an entry: the line of a refused one, with its index
+
+abbrev pub entry_text : ℕ → Result (Unit {0}) Refusal → Result (Unit {0}) (List ℕ)
+entry_text index (Ok tt) = Ok tt
+entry_text index (Err r) = Err (entry_line index (number_of r))
+
+pub record EntryDelivered (m m' : List ℕ) (number index : ℕ) (bytes : List ℕ) (out : Result (Unit {0}) (List ℕ)) : Type 0 where
   pub delivered : Delivered m m' 1 0 number bytes (deliver_answer m 1 0 number bytes)
   pub printed : out ≡ entry_text index (deliver_answer m 1 0 number bytes)
 
@@ -57,17 +67,17 @@ closed_text a = epoch_line (suc a.closed) (length (listed a)) ++ each piece_text
 abbrev pub close_answer : List ℕ → ℕ → Result ℕ Refusal
 close_answer m number = close_from (named m 1 0 number) LEAST_LIST
 
-abbrev pub close_text : Result ℕ Refusal → Named → List ℕ
-close_text (Err r) n = []
-close_text (Ok count) (found a) = closed_text a
-close_text (Ok count) (refused r) = []
+abbrev pub close_text : Result ℕ Refusal → Named → Option (List ℕ)
+close_text (Err r) n = None
+close_text (Ok count) (found a) = Some (closed_text a)
+close_text (Ok count) (refused r) = None
 
 -- the epoch of the lot's account is closed, and nothing else has changed; a refusal changes nothing
 abbrev pub LotClosed : List ℕ → List ℕ → Result ℕ Refusal → Type 0
 LotClosed m m' (Ok count) = OnlyLot 0 m m' × ((a : Account) → view_of m 0 ≡ holds a → view_of m' 0 ≡ holds (close a))
 LotClosed m m' (Err r) = m' ≡ m
 
-pub record NextClosed (m m' : List ℕ) (number : ℕ) (out : List ℕ) : Type 0 where
+pub record NextClosed (m m' : List ℕ) (number : ℕ) (out : Option (List ℕ)) : Type 0 where
   pub closed : LotClosed m m' (close_answer m number)
   pub printed : out ≡ close_text (close_answer m number) (named m 1 0 number)
 
