@@ -1,5 +1,5 @@
 -- What the program prints of each call on its one lot, lot 0 of 1, and what each function owes: the memory by the contracts of the calls, and the text that it answers.
-use Rattle.std.specs.Prelude.{ℕ, suc, ◌+◌, ◌*◌, ◌≡◌, List, [], ◌++◌, ltb, length, get_or, if◌then◌else◌, Result, Ok, Err, Some, None, Option}
+use Rattle.std.specs.Prelude.{ℕ, suc, ◌≡◌, List, [], ◌++◌, ltb, length, get_or, if◌then◌else◌, Result, Ok, Err, Some, None, Option}
 use Rattle.wire.specs.Numbers.{number16}
 use Rattle.model.specs.Lists.{upward}
 use Rattle.model.specs.Account.{Account, held_count, Named, refused, found}
@@ -81,9 +81,9 @@ pub record NextClosed (m m' : List ℕ) (number : ℕ) (out : Option (List ℕ))
   pub closed : LotClosed m m' (close_answer m number)
   pub printed : out ≡ close_text (close_answer m number) (named m 1 0 number)
 
--- the first n pairs of a list, as lines
-unfoldable pub pairs_text : ℕ → List ℕ → List ℕ
-pairs_text n list = upward n 0 (λ i. piece_line (get_or list (i * 2) 0) (get_or list (i * 2 + 1) 0))
+-- a pair of the list, as a line
+abbrev pub pair_text : List ℕ → List ℕ
+pair_text pair = piece_line (get_or pair 0 0) (get_or pair 1 0)
 
 -- ---- at the end: each present record, by fragment, then key; the held count
 

@@ -3,10 +3,12 @@
 #![tactic(auto)]
 
 ghost use Rattle.std.specs.Prelude.{◌≡◌, ◌++◌, ◌+◌, ◌*◌, ◌≤◌, length};
+ghost use Rattle.model.specs.Image.{each};
 ghost use Rattle.lines.specs.declared.TheConstants.{ROOM};
 ghost use Rattle.lines.specs.Lines.{entry_line, open_line};
 ghost use Rattle.lots.specs.Memory.{named};
-ghost use Rattle.replaying.specs.Replaying.{number_of, header_of, HeaderOpened, EntryDelivered, NextClosed, pairs_text, found_text, fragment_text, records_text, last_text};
+ghost use Rattle.standby.specs.Calls.{AccountOpened};
+ghost use Rattle.replaying.specs.Replaying.{number_of, header_of, HeaderOpened, EntryDelivered, NextClosed, pair_text, found_text, fragment_text, records_text, last_text};
 
 use lines::Text;
 use lot::Account;
@@ -42,6 +44,13 @@ impl Header {
             keys: u32::from(bytes[3]),
         })
     }
+
+    // Opens its account in a memory of one lot that was started.
+    fn open(self, memory: &mut [u8]) -> Result<u32, Refusal>
+        ensures { AccountOpened memory.old memory.new 1 self.account self.fragments self.keys result }
+    {
+        standby::open_account(memory, 1, self.account, self.fragments, self.keys)
+    }
 }
 
 fn refused_header(refusal: Refusal) -> Text
@@ -52,14 +61,13 @@ fn refused_header(refusal: Refusal) -> Text
     line
 }
 
-// Opens the account of the header that begins these bytes, in a memory of one lot that was started. Err has the line of a refusal.
+// Opens the account of the header that begins these bytes, in a memory of one lot that was started, or answers the line of the
+// refusal.
 pub fn open_header(memory: &mut [u8], bytes: &[u8]) -> Result<Header, Text>
     ensures { HeaderOpened memory.old memory.new (header_of bytes.now) result }
 {
     let header = Header::read(bytes).map_err(refused_header)?;
-    standby::open_account(memory, 1, header.account, header.fragments, header.keys).map_err(
-        refused_header,
-    )?;
+    header.open(memory).map_err(refused_header)?;
     Ok(header)
 }
 
@@ -73,7 +81,7 @@ fn refused_entry(index: u64, refusal: Refusal) -> Text
     line
 }
 
-// Err has the line of a refusal.
+// Delivers entry `index`, or answers the line of the refusal.
 pub fn deliver_entry(memory: &mut [u8], account: u32, index: u64, entry: &[u8]) -> Result<(), Text>
     ensures { EntryDelivered memory.old memory.new account index entry.now result }
 {
@@ -82,13 +90,11 @@ pub fn deliver_entry(memory: &mut [u8], account: u32, index: u64, entry: &[u8]) 
 
 // ---- a close
 
-#[tactic(auto, unfolding(crate::specs::Replaying::pairs_text), using(crate::proofs::Printing::wrote_start, crate::proofs::Printing::wrote_upward))]
-fn put_pieces(list: &[u32; 512], count: u32, out: &mut Text)
-    requires { (count ≤ 256) × (length out.old ≤ 70) }
-    ensures { out.new ≡ out.old ++ pairs_text count list.now }
+fn put_pieces(pieces: &[[u32; 2]], out: &mut Text)
+    requires { (length pieces.now ≤ 256) × (length out.old ≤ 70) }
+    ensures { out.new ≡ out.old ++ each pair_text pieces.now }
 {
-    let (pairs, _) = list.as_chunks::<2>();
-    for [fragment, transaction] in &pairs[..count as usize] {
+    for [fragment, transaction] in pieces {
         out.piece(u64::from(*fragment), u64::from(*transaction));
     }
 }
@@ -102,7 +108,8 @@ pub fn close_next(memory: &mut [u8], account: u32) -> Option<Text>
     let row = overview::row_at(memory, 1, 0);
     let mut out = Text::new();
     out.epoch(u64::from(row.closed), u64::from(count));
-    put_pieces(&list, count, &mut out);
+    let (pairs, _) = list.as_chunks::<2>();
+    put_pieces(&pairs[..count as usize], &mut out);
     Some(out)
 }
 
