@@ -57,7 +57,7 @@ impl Run {
         }
     }
 
-    // Nothing says that the input ends, so this loop too has an end that no run reaches.
+    // Nothing says that the input ends. So this loop ends where the indices do, which no run reaches.
     fn all_entries(&mut self, account: u32) -> io::Result<()> {
         for index in 0.. {
             let mut entry = [0u8; 16];

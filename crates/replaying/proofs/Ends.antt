@@ -8,7 +8,7 @@ use Rattle.std.specs.Prelude.{Some}
 use Rattle.model.specs.Account.{Account, account_fits, Named, refused, found}
 use Rattle.model.specs.Closing.{close, settle}
 use Rattle.model.proofs.Judged.{all_marked}
-use Rattle.model.proofs.Tests.{no_way, nth}
+use Rattle.model.proofs.Tests.{nth}
 use Rattle.lot.specs.View.{holds}
 use Rattle.lot.proofs.Views.{holds_well_formed}
 use Rattle.lots.specs.Memory.{lot_of, view_of, named}
@@ -37,7 +37,7 @@ module _ (number : ℕ) (m m' : List ℕ) {out : List ℕ} (w : NextClosed m m' 
   fewer_left = go (named m 1 0 number) refl
     where
       go : (n : Named) → named m 1 0 number ≡ n → epochs_left m' number < left_of n
-      go (refused r) e = no_way (cc (rw e at w.printed))
+      go (refused r) e = absurd (cc (rw e at w.printed))
       go (found a) e =
           let t = told number m m' e w in
           let s = all_marked a t.judged 0 (some_fragment m (holder m 1 0 number e).held) in

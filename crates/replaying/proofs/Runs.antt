@@ -98,7 +98,7 @@ module _ (header : List ℕ) (entries : List (List ℕ)) where
   refused_prints m m' {out} f (Ok h) e w = go (header_fits (Ok h)) refl
     where
       go : (b : Bool) → header_fits (Ok h) ≡ b → Prints header entries out
-      go true d = no_way (cc ((open_one h m m' f w true d).1))
+      go true d = absurd (cc ((open_one h m m' f w true d).1))
       go false d = let p : out ≡ open_line (number_of UnfitAccount) = cc ((open_one h m m' f w false d).1) in rw p (runs.unfit (rw e d))
 
   -- the account of the header is then in the lot
@@ -108,7 +108,7 @@ module _ (header : List ℕ) (entries : List (List ℕ)) where
     pub there : named m' 1 0 h.account ≡ found (account_of h)
 
   opens : (m m' : List ℕ) {h : Header} → Free m → (j : Result Header Refusal) → header_of header ≡ j → HeaderOpened m m' j (Ok h) → Opens h m'
-  opens m m' f (Err r) e w = no_way (cc (w.printed))
+  opens m m' f (Err r) e w = absurd (cc (w.printed))
   opens m m' {h} f (Ok k) e w = go (header_fits (Ok k)) refl
     where
       go : (b : Bool) → header_fits (Ok k) ≡ b → Opens h m'
@@ -116,7 +116,7 @@ module _ (header : List ℕ) (entries : List (List ℕ)) where
           let o = open_one k m m' f w true d in
           let same : h ≡ k = cc (o.1) in
           rw same (record { read = e; fits = d; there = open_named k m m' f o.0 })
-      go false d = no_way (cc ((open_one k m m' f w false d).1))
+      go false d = absurd (cc ((open_one k m m' f w false d).1))
 
   -- what the calls of the program write out is what the page says
   pub run_prints : {text : List ℕ} → Calls header entries text → Prints header entries text

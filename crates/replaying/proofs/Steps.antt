@@ -4,10 +4,8 @@ use Prim.Native.Nat.{ℕ}
 use mathlib.Core.Path.{◌≡◌, refl, sym, subst, ◌∙◌}
 use mathlib.Core.Bool.{true}
 use mathlib.Core.List.{List, [], ◌++◌}
-use native.Mathlib.Omega.{arith}
 use borrow.Author.Tests.{eq-eqb}
 use lib.ListN.{length}
-use Rattle.model.proofs.Tests.{no_way}
 use Rattle.model.specs.declared.Refusal.{Refusal}
 use Rattle.model.specs.Account.{Account, found}
 use Rattle.model.specs.Entry.{entry_of}
@@ -51,9 +49,9 @@ module _ (number : ℕ) where
   number_closed a = refl
 
   stops : (m m' : List ℕ) {a : Account} → named m 1 0 number ≡ found a → NextClosed m m' number None → (o : Result (Unit {0}) Refusal) → judge_close a ≡ o → Leads a [] m'
-  stops m m' {a = a} here w (Ok tt) e = no_way (cc ((close_one m m' here w (Ok tt) e).1))
+  stops m m' {a = a} here w (Ok tt) e = absurd (cc ((close_one m m' here w (Ok tt) e).1))
   stops m m' {a = a} here w (Err r) e =
-      record { account = a; closings = stuck (λ d. let z : (Ok tt) ≡ Err r = sym d ∙ e in let y : ◌≡◌ {A = ℕ} 0 1 = cc in omega arith); there = rw (close_one m m' here w (Err r) e).0 here }
+      record { account = a; closings = stuck (λ d. cc); there = rw (close_one m m' here w (Err r) e).0 here }
 
   -- an epoch that is closed and told
   pub record Told (a : Account) (m' out : List ℕ) : Type 0 where
@@ -68,11 +66,11 @@ module _ (number : ℕ) where
       go (Ok tt) e =
           let c = close_one m m' here w (Ok tt) e in
           record { judged = e; text = cc (c.1); there = still_named m m' here (number_closed a) c.0.0 (c.0.1 a (holder m 1 0 number here).held) }
-      go (Err r) e = no_way (cc ((close_one m m' here w (Err r) e).1))
+      go (Err r) e = absurd (cc ((close_one m m' here w (Err r) e).1))
 
   pub close_calls : {m m' text : List ℕ} {a : Account} → CloseCalls number m text m' → named m 1 0 number ≡ found a → Leads a text m'
   close_calls {a = a} (stop {m} {m'} w) here = stops m m' here w (judge_close a) refl
-  close_calls {text = later} {a = a} (again {m} {m'} {text = text} w rest) here =
+  close_calls {a = a} (again {m} {m'} {text = text} w rest) here =
       let t = told m m' here w in
       let l = close_calls rest t.there in
       let Gives : List ℕ → Type 0 = λ printed. Closings a (printed ++ text) l.account in
@@ -100,7 +98,7 @@ module _ (number : ℕ) where
     number_taken a = refl
 
     prints : (m m' : List ℕ) {out : List ℕ} {a : Account} → named m 1 0 number ≡ found a → EntryDelivered m m' number index bytes (Err out) → (o : Result (Unit {0}) Refusal) → judge a bytes ≡ o → Stepped a out m'
-    prints m m' here w (Ok tt) e = no_way (cc ((deliver_one m m' here w (Ok tt) e).1))
+    prints m m' here w (Ok tt) e = absurd (cc ((deliver_one m m' here w (Ok tt) e).1))
     prints m m' {out} {a} here w (Err r) e =
         let d = deliver_one m m' here w (Err r) e in
         let p : out ≡ entry_line index (number_of r) = cc (d.1) in
@@ -112,7 +110,7 @@ module _ (number : ℕ) where
         let d = deliver_one m m' here w (Ok tt) e in
         let l = close_calls rest (still_named m m' here (number_taken a) d.0.0 (d.0.1 a (holder m 1 0 number here).held)) in
         record { account = l.account; step = steps.taken e l.closings; there = l.there }
-    takes m m' here w rest (Err r) e = no_way (cc ((deliver_one m m' here w (Err r) e).1))
+    takes m m' here w rest (Err r) e = absurd (cc ((deliver_one m m' here w (Err r) e).1))
 
     -- the calls of the program for one entry make the page's step
     pub entry_calls : {m m' text : List ℕ} {a : Account} → EntryCalls number index bytes m text m' → named m 1 0 number ≡ found a → Stepped a text m'

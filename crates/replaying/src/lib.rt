@@ -149,7 +149,7 @@ fn put_records(memory: &[u8], account: Account, out: &mut Text)
     }
 }
 
-// The records of the account and how many entries it holds.
+// The records of the account and how many entries it holds; nothing where the lot is not this account's.
 pub fn put_account(memory: &[u8], account: u32) -> Text
     ensures { result ≡ last_text (named memory.now 1 0 account) }
 {
