@@ -53,7 +53,7 @@ impl Run {
     fn deliver(&mut self, account: u32, index: u64, entry: &[u8]) -> io::Result<()> {
         match replaying::deliver_entry(&mut self.memory, account, index, entry) {
             Ok(()) => self.close_while_it_can(account),
-            Err(line) => self.print(&line),
+            Err(refused) => self.print(&refused.line()),
         }
     }
 
@@ -80,7 +80,7 @@ impl Run {
                 let text = replaying::put_account(&self.memory, header.account);
                 self.print(&text)
             }
-            Err(line) => self.print(&line),
+            Err(refused) => self.print(&refused.line()),
         }
     }
 }

@@ -17,9 +17,10 @@ use Rattle.lot.specs.Layout.{SIZE}
 use Rattle.lot.specs.View.{free}
 use Rattle.lots.specs.Memory.{memory_fits, lot_fits, view_of, some_below, lowest_below, named}
 use Rattle.standby.specs.Calls.{start_answer, Started, place_for, open_answer, OpenedAs}
-use Rattle.lines.specs.Lines.{open_line}
+use Rattle.replaying.specs.declared.Refused.{Refused}
+use Rattle.replaying.specs.declared.Refused.TheVariants as refused
 use Rattle.replaying.specs.declared.Header.{Header}
-use Rattle.replaying.specs.Replaying.{number_of, header_of, open_text, answer_to, HeaderOpened, account_text}
+use Rattle.replaying.specs.Replaying.{refused_line, header_of, open_told, answer_to, HeaderOpened, account_text}
 use Rattle.replaying.specs.Runs as runs
 use Rattle.replaying.specs.Runs.{Steps, header_fits, account_of, Prints, EntriesCalls, Calls}
 use Rattle.replaying.proofs.Steps.{entry_calls}
@@ -55,9 +56,9 @@ fresh_answer m h f = rw (one_lot m f.long, f.empty) (go (header_fits (Ok h)))
     go false = refl
 
 module _ (h : Header) where
-  open_one : (m m' : List ℕ) {out : Result Header (List ℕ)} → Free m → HeaderOpened m m' (Ok h) out → (b : Bool) → header_fits (Ok h) ≡ b
-      → OpenedAs m m' (account_of h) (opened_by b) × (out ≡ open_text h (opened_by b))
-  open_one m m' f w b e = let s : answer_to m h ≡ opened_by b = fresh_answer m h f ∙ rw e in (rw s at w.opened.opened, rw s at w.printed)
+  open_one : (m m' : List ℕ) {out : Result Header Refused} → Free m → HeaderOpened m m' (Ok h) out → (b : Bool) → header_fits (Ok h) ≡ b
+      → OpenedAs m m' (account_of h) (opened_by b) × (out ≡ open_told h (opened_by b))
+  open_one m m' f w b e = let s : answer_to m h ≡ opened_by b = fresh_answer m h f ∙ rw e in (rw s at w.opened.opened, rw s at w.told)
 
   open_named : (m m' : List ℕ) → Free m → OpenedAs m m' (account_of h) (Ok 0) → named m' 1 0 h.account ≡ found (account_of h)
   unfolding named lot_fits fresh
@@ -91,15 +92,15 @@ module _ (number : ℕ) where
 -- ---- the run
 
 module _ (header : List ℕ) (entries : List (List ℕ)) where
-  refused_prints : (m m' : List ℕ) {out : List ℕ} → Free m → (j : Result Header Refusal) → header_of header ≡ j → HeaderOpened m m' j (Err out) → Prints header entries out
-  refused_prints m m' {out} f (Err r) e w =
-      let p : out ≡ open_line (number_of r) = cc (w.printed) in
+  refused_prints : (m m' : List ℕ) {why : Refused} → Free m → (j : Result Header Refusal) → header_of header ≡ j → HeaderOpened m m' j (Err why) → Prints header entries (refused_line why)
+  refused_prints m m' {why} f (Err r) e w =
+      let p : why ≡ refused.Header r = cc (w.told) in
       rw (p, no_header header e) (runs.unfit (rw e))
-  refused_prints m m' {out} f (Ok h) e w = go (header_fits (Ok h)) refl
+  refused_prints m m' {why} f (Ok h) e w = go (header_fits (Ok h)) refl
     where
-      go : (b : Bool) → header_fits (Ok h) ≡ b → Prints header entries out
+      go : (b : Bool) → header_fits (Ok h) ≡ b → Prints header entries (refused_line why)
       go true d = absurd (cc ((open_one h m m' f w true d).1))
-      go false d = let p : out ≡ open_line (number_of UnfitAccount) = cc ((open_one h m m' f w false d).1) in rw p (runs.unfit (rw e d))
+      go false d = let p : why ≡ refused.Header UnfitAccount = cc ((open_one h m m' f w false d).1) in rw p (runs.unfit (rw e d))
 
   -- the account of the header is then in the lot
   record Opens (h : Header) (m' : List ℕ) : Type 0 where
@@ -108,7 +109,7 @@ module _ (header : List ℕ) (entries : List (List ℕ)) where
     pub there : named m' 1 0 h.account ≡ found (account_of h)
 
   opens : (m m' : List ℕ) {h : Header} → Free m → (j : Result Header Refusal) → header_of header ≡ j → HeaderOpened m m' j (Ok h) → Opens h m'
-  opens m m' f (Err r) e w = absurd (cc (w.printed))
+  opens m m' f (Err r) e w = absurd (cc (w.told))
   opens m m' {h} f (Ok k) e w = go (header_fits (Ok k)) refl
     where
       go : (b : Bool) → header_fits (Ok k) ≡ b → Opens h m'

@@ -15,8 +15,9 @@ use Rattle.lot.specs.View.{holds}
 use Rattle.lots.specs.Memory.{lot_fits, view_of, OnlyLot, named}
 use Rattle.lots.proofs.Named.{holder}
 use Rattle.standby.specs.Calls.{deliver_answer, TakenBy}
-use Rattle.lines.specs.Lines.{entry_line}
-use Rattle.replaying.specs.Replaying.{number_of, entry_text, EntryDelivered, closed_text, close_text, LotClosed, NextClosed}
+use Rattle.replaying.specs.declared.Refused.{Refused}
+use Rattle.replaying.specs.declared.Refused.TheVariants as refused
+use Rattle.replaying.specs.Replaying.{refused_line, entry_told, EntryDelivered, closed_text, close_text, LotClosed, NextClosed}
 use Rattle.replaying.specs.Steps as steps
 use Rattle.replaying.specs.Steps.{Closings, Step, CloseCalls, EntryCalls, stuck, closes, stop, again, printed, silent}
 use Rattle.replaying.proofs.Closes.{same_fit}
@@ -89,19 +90,19 @@ module _ (number : ℕ) where
     unfolding deliver_answer
     answer_is_law m here = rw here
 
-    deliver_one : (m m' : List ℕ) {out : Result (Unit {0}) (List ℕ)} {a : Account} → named m 1 0 number ≡ found a → EntryDelivered m m' number index bytes out
-        → (o : Result (Unit {0}) Refusal) → judge a bytes ≡ o → TakenBy m m' 0 bytes o × (out ≡ entry_text index o)
-    deliver_one m m' here w o e = let s = answer_is_law m here ∙ e in (rw s at w.delivered.taken, rw s at w.printed)
+    deliver_one : (m m' : List ℕ) {out : Result (Unit {0}) Refused} {a : Account} → named m 1 0 number ≡ found a → EntryDelivered m m' number index bytes out
+        → (o : Result (Unit {0}) Refusal) → judge a bytes ≡ o → TakenBy m m' 0 bytes o × (out ≡ entry_told index o)
+    deliver_one m m' here w o e = let s = answer_is_law m here ∙ e in (rw s at w.delivered.taken, rw s at w.told)
 
     number_taken : (a : Account) → (taken (entry_of bytes) a).number ≡ a.number
     unfolding taken
     number_taken a = refl
 
-    prints : (m m' : List ℕ) {out : List ℕ} {a : Account} → named m 1 0 number ≡ found a → EntryDelivered m m' number index bytes (Err out) → (o : Result (Unit {0}) Refusal) → judge a bytes ≡ o → Stepped a out m'
+    prints : (m m' : List ℕ) {why : Refused} {a : Account} → named m 1 0 number ≡ found a → EntryDelivered m m' number index bytes (Err why) → (o : Result (Unit {0}) Refusal) → judge a bytes ≡ o → Stepped a (refused_line why) m'
     prints m m' here w (Ok tt) e = absurd (cc ((deliver_one m m' here w (Ok tt) e).1))
-    prints m m' {out} {a} here w (Err r) e =
+    prints m m' {why} {a} here w (Err r) e =
         let d = deliver_one m m' here w (Err r) e in
-        let p : out ≡ entry_line index (number_of r) = cc (d.1) in
+        let p : why ≡ refused.Entry index r = cc (d.1) in
         record { account = a; step = rw p (steps.refused e); there = rw d.0 here }
 
     takes : (m m' : List ℕ) {m'' text : List ℕ} {a : Account} → named m 1 0 number ≡ found a → EntryDelivered m m' number index bytes (Ok tt) → CloseCalls number m' text m''

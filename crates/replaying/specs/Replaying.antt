@@ -13,9 +13,16 @@ use Rattle.lots.specs.Memory.{view_of, OnlyLot, named}
 use Rattle.standby.specs.Calls.{open_answer, AccountOpened, deliver_answer, Delivered, read_answer}
 use Rattle.lines.specs.Lines.{epoch_line, piece_line, record_line, held_line, entry_line, open_line}
 use Rattle.replaying.specs.declared.Header.{Header}
+use Rattle.replaying.specs.declared.Refused.{Refused}
+use Rattle.replaying.specs.declared.Refused.TheVariants as refused
 
 abbrev pub number_of : Refusal → ℕ
 number_of r = (refusal_numbers r).number
+
+-- the line of a refused header, and of a refused entry with its index
+abbrev pub refused_line : Refused → List ℕ
+refused_line (refused.Header r) = open_line (number_of r)
+refused_line (refused.Entry index r) = entry_line index (number_of r)
 
 -- ---- the header: account 2 bytes, f 1, k 1; one under 4 bytes is refused by 15
 
@@ -32,28 +39,28 @@ abbrev pub OpenedBy : List ℕ → List ℕ → Result Header Refusal → Type 0
 OpenedBy m m' (Ok h) = AccountOpened m m' 1 h.account h.fragments h.keys (answer_to m h)
 OpenedBy m m' (Err r) = m' ≡ m
 
--- the header that is opened, or the line of the refusal
-abbrev pub open_text : Header → Result ℕ Refusal → Result Header (List ℕ)
-open_text h (Ok lot) = Ok h
-open_text h (Err r) = Err (open_line (number_of r))
+-- the header that is opened, or its refusal
+abbrev pub open_told : Header → Result ℕ Refusal → Result Header Refused
+open_told h (Ok lot) = Ok h
+open_told h (Err r) = Err (refused.Header r)
 
-abbrev pub header_text : List ℕ → Result Header Refusal → Result Header (List ℕ)
-header_text m (Ok h) = open_text h (answer_to m h)
-header_text m (Err r) = Err (open_line (number_of r))
+abbrev pub header_told : List ℕ → Result Header Refusal → Result Header Refused
+header_told m (Ok h) = open_told h (answer_to m h)
+header_told m (Err r) = Err (refused.Header r)
 
-pub record HeaderOpened (m m' : List ℕ) (header : Result Header Refusal) (out : Result Header (List ℕ)) : Type 0 where
+pub record HeaderOpened (m m' : List ℕ) (header : Result Header Refusal) (out : Result Header Refused) : Type 0 where
   pub opened : OpenedBy m m' header
-  pub printed : out ≡ header_text m header
+  pub told : out ≡ header_told m header
 
--- ---- an entry: the line of a refused one, with its index
+-- ---- an entry: the refusal of a refused one has its index
 
-abbrev pub entry_text : ℕ → Result (Unit {0}) Refusal → Result (Unit {0}) (List ℕ)
-entry_text index (Ok tt) = Ok tt
-entry_text index (Err r) = Err (entry_line index (number_of r))
+abbrev pub entry_told : ℕ → Result (Unit {0}) Refusal → Result (Unit {0}) Refused
+entry_told index (Ok tt) = Ok tt
+entry_told index (Err r) = Err (refused.Entry index r)
 
-pub record EntryDelivered (m m' : List ℕ) (number index : ℕ) (bytes : List ℕ) (out : Result (Unit {0}) (List ℕ)) : Type 0 where
+pub record EntryDelivered (m m' : List ℕ) (number index : ℕ) (bytes : List ℕ) (out : Result (Unit {0}) Refused) : Type 0 where
   pub delivered : Delivered m m' 1 0 number bytes (deliver_answer m 1 0 number bytes)
-  pub printed : out ≡ entry_text index (deliver_answer m 1 0 number bytes)
+  pub told : out ≡ entry_told index (deliver_answer m 1 0 number bytes)
 
 -- ---- a close: the epoch with the count of its pieces, and its pieces in the order of the list
 

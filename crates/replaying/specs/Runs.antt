@@ -7,9 +7,10 @@ use Rattle.lot.specs.Layout.{SIZE}
 use Rattle.lots.specs.Memory.{named}
 use Rattle.standby.specs.Calls.{Started}
 use Rattle.lines.specs.Lines.{open_line}
-use Rattle.replaying.specs.Replaying.{number_of, header_of, HeaderOpened, account_text, last_text}
+use Rattle.replaying.specs.Replaying.{number_of, refused_line, header_of, HeaderOpened, account_text, last_text}
 use Rattle.replaying.specs.Steps.{Step, EntryCalls}
 use Rattle.replaying.specs.declared.Header.{Header}
+use Rattle.replaying.specs.declared.Refused.{Refused}
 
 -- ---- by the page
 
@@ -40,6 +41,6 @@ pub data EntriesCalls (number : ℕ) : ℕ → List (List ℕ) → List ℕ → 
 
 -- one lot of memory is started and the header opened; where it is not refused, the entries follow, and put_account
 pub data Calls (header : List ℕ) (entries : List (List ℕ)) : List ℕ → Type 0 where
-  refused : {m m' m'' out : List ℕ} {r : Result (Unit {0}) Refusal} → length m ≡ SIZE → Started m m' 1 r → HeaderOpened m' m'' (header_of header) (Err out) → Calls header entries out
+  refused : {m m' m'' : List ℕ} {why : Refused} {r : Result (Unit {0}) Refusal} → length m ≡ SIZE → Started m m' 1 r → HeaderOpened m' m'' (header_of header) (Err why) → Calls header entries (refused_line why)
   opened : {h : Header} {m m' m'' n text out : List ℕ} {r : Result (Unit {0}) Refusal} → length m ≡ SIZE → Started m m' 1 r → HeaderOpened m' m'' (header_of header) (Ok h)
       → EntriesCalls h.account 0 entries m'' text n → out ≡ last_text (named n 1 0 h.account) → Calls header entries (text ++ out)

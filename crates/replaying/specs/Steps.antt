@@ -7,7 +7,8 @@ use Rattle.model.specs.Taking.{judge}
 use Rattle.model.specs.Closing.{judge_close, close}
 use Rattle.model.specs.declared.Refusal.{Refusal}
 use Rattle.lines.specs.Lines.{entry_line}
-use Rattle.replaying.specs.Replaying.{number_of, EntryDelivered, closed_text, NextClosed}
+use Rattle.replaying.specs.declared.Refused.{Refused}
+use Rattle.replaying.specs.Replaying.{number_of, refused_line, EntryDelivered, closed_text, NextClosed}
 
 -- ---- by the page
 
@@ -30,5 +31,5 @@ pub data CloseCalls (number : ℕ) : List ℕ → List ℕ → List ℕ → Type
 
 -- deliver_entry, and close_next after a taken entry
 pub data EntryCalls (number index : ℕ) (bytes : List ℕ) : List ℕ → List ℕ → List ℕ → Type 0 where
-  printed : {m m' out : List ℕ} → EntryDelivered m m' number index bytes (Err out) → EntryCalls number index bytes m out m'
+  printed : {m m' : List ℕ} {why : Refused} → EntryDelivered m m' number index bytes (Err why) → EntryCalls number index bytes m (refused_line why) m'
   silent : {m m' m'' text : List ℕ} → EntryDelivered m m' number index bytes (Ok tt) → CloseCalls number m' text m'' → EntryCalls number index bytes m text m''

@@ -5,10 +5,9 @@
 ghost use Rattle.std.specs.Prelude.{◌≡◌, ◌++◌, ◌+◌, ◌*◌, ◌≤◌, length};
 ghost use Rattle.model.specs.Image.{each};
 ghost use Rattle.lines.specs.declared.TheConstants.{ROOM};
-ghost use Rattle.lines.specs.Lines.{entry_line, open_line};
 ghost use Rattle.lots.specs.Memory.{named};
 ghost use Rattle.standby.specs.Calls.{AccountOpened};
-ghost use Rattle.replaying.specs.Replaying.{number_of, header_of, HeaderOpened, EntryDelivered, NextClosed, pair_text, found_text, fragment_text, records_text, last_text};
+ghost use Rattle.replaying.specs.Replaying.{number_of, refused_line, header_of, HeaderOpened, EntryDelivered, NextClosed, pair_text, found_text, fragment_text, records_text, last_text};
 
 use lines::Text;
 use lot::Account;
@@ -18,6 +17,29 @@ fn number_of(refusal: Refusal) -> u64
     ensures { result ≡ number_of refusal }
 {
     u64::from(answers::refusal_numbers(refusal).number)
+}
+
+// ---- refusals
+
+// The refusal of the header, or of an entry with its index, from 0.
+#[derive(Clone, Copy)]
+pub enum Refused {
+    Header(Refusal),
+    Entry(u64, Refusal),
+}
+
+impl Refused {
+    // The line that tells it.
+    pub fn line(self) -> Text
+        ensures { result ≡ refused_line self }
+    {
+        let mut line = Text::new();
+        match self {
+            Refused::Header(refusal) => line.refused_header(number_of(refusal)),
+            Refused::Entry(index, refusal) => line.refused_entry(index, number_of(refusal)),
+        }
+        line
+    }
 }
 
 // ---- the header
@@ -53,39 +75,26 @@ impl Header {
     }
 }
 
-fn refused_header(refusal: Refusal) -> Text
-    ensures { result ≡ open_line (number_of refusal) }
-{
-    let mut line = Text::new();
-    line.refused_header(number_of(refusal));
-    line
-}
-
-// Opens the account of the header that begins these bytes, in a memory of one lot that was started, or answers the line of the
-// refusal.
-pub fn open_header(memory: &mut [u8], bytes: &[u8]) -> Result<Header, Text>
+// Opens the account of the header that begins these bytes, in a memory of one lot that was started.
+pub fn open_header(memory: &mut [u8], bytes: &[u8]) -> Result<Header, Refused>
     ensures { HeaderOpened memory.old memory.new (header_of bytes.now) result }
 {
-    let header = Header::read(bytes).map_err(refused_header)?;
-    header.open(memory).map_err(refused_header)?;
+    let header = Header::read(bytes).map_err(Refused::Header)?;
+    header.open(memory).map_err(Refused::Header)?;
     Ok(header)
 }
 
 // ---- an entry
 
-fn refused_entry(index: u64, refusal: Refusal) -> Text
-    ensures { result ≡ entry_line index (number_of refusal) }
-{
-    let mut line = Text::new();
-    line.refused_entry(index, number_of(refusal));
-    line
-}
-
-// Delivers entry `index`, or answers the line of the refusal.
-pub fn deliver_entry(memory: &mut [u8], account: u32, index: u64, entry: &[u8]) -> Result<(), Text>
+pub fn deliver_entry(
+    memory: &mut [u8],
+    account: u32,
+    index: u64,
+    entry: &[u8],
+) -> Result<(), Refused>
     ensures { EntryDelivered memory.old memory.new account index entry.now result }
 {
-    standby::deliver(memory, 1, 0, account, entry).map_err(|refusal| refused_entry(index, refusal))
+    standby::deliver(memory, 1, 0, account, entry).map_err(|refusal| Refused::Entry(index, refusal))
 }
 
 // ---- a close
