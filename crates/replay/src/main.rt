@@ -2,7 +2,7 @@
 // can after each taken entry, and prints what happened and what is there at the end. It stands on `replaying`.
 #![tactic(auto)]
 
-ghost use Rattle.std.specs.Prelude.{◌≤◌, length, IfOk};
+ghost use Rattle.std.specs.Prelude.{◌≡◌, ◌≤◌, length, IfOk};
 
 use lines::Text;
 use std::io::{self, ErrorKind, Read, Write};
@@ -37,47 +37,33 @@ struct Run {
 }
 
 impl Run {
-    fn print(&mut self, text: &Text) -> io::Result<()> {
+    fn print(&mut self, text: &Text) -> io::Result<()>
+        ensures { self.new.memory ≡ self.old.memory }
+    {
         self.output.write_all(text.as_bytes())
     }
 
-    // Closes the next epoch where it can, and answers whether it did.
-    fn close_next(&mut self, account: u32) -> io::Result<bool> {
-        let text = replaying::close_next(&mut self.memory, account);
-        self.print(&text)?;
-        Ok(!text.is_empty())
-    }
-
-    // A proved loop has to end. So this one ends after more turns than there are epochs.
     fn close_while_it_can(&mut self, account: u32) -> io::Result<()> {
-        for _ in 0..u64::MAX {
-            if !self.close_next(account)? {
-                break;
-            }
+        while let Some(text) = replaying::close_next(&mut self.memory, account) {
+            self.print(&text)?;
         }
         Ok(())
     }
 
-    // Reads the next entry and delivers it, and answers whether there was one.
-    fn next_entry(&mut self, account: u32, index: u64) -> io::Result<bool> {
-        let mut entry = [0u8; 16];
-        let read = read_full(self.input, &mut entry)?;
-        if read == 0 {
-            return Ok(false);
+    fn deliver(&mut self, account: u32, index: u64, entry: &[u8]) -> io::Result<()> {
+        match replaying::deliver_entry(&mut self.memory, account, index, entry) {
+            Ok(()) => self.close_while_it_can(account),
+            Err(refused) => self.print(&refused.line()),
         }
-        let text = replaying::deliver_entry(&mut self.memory, account, index, &entry[..read]);
-        self.print(&text)?;
-        if text.is_empty() {
-            self.close_while_it_can(account)?;
-        }
-        Ok(true)
     }
 
-    // Nothing says that the input ends, so this loop too has an end that no run reaches.
+    // Nothing says that the input ends. So this loop ends where the indices do, which no run reaches.
     fn all_entries(&mut self, account: u32) -> io::Result<()> {
-        for index in 0..u64::MAX {
-            if !self.next_entry(account, index)? {
-                break;
+        for index in 0.. {
+            let mut entry = [0u8; 16];
+            match read_full(self.input, &mut entry)? {
+                0 => break,
+                read => self.deliver(account, index, &entry[..read])?,
             }
         }
         Ok(())
@@ -86,17 +72,16 @@ impl Run {
     fn replay(&mut self) -> io::Result<()> {
         let mut first = [0u8; 4];
         let read = read_full(self.input, &mut first)?;
-        let header = replaying::read_header(&first[..read]);
         // One lot of its size is never refused.
         let _ = standby::start(&mut self.memory, 1);
-        let text = replaying::open_header(&mut self.memory, header);
-        self.print(&text)?;
-        if !text.is_empty() {
-            return Ok(());
+        match replaying::open_header(&mut self.memory, &first[..read]) {
+            Ok(header) => {
+                self.all_entries(header.account)?;
+                let text = replaying::put_account(&self.memory, header.account);
+                self.print(&text)
+            }
+            Err(refused) => self.print(&refused.line()),
         }
-        self.all_entries(header.account)?;
-        let text = replaying::put_account(&self.memory, header.account);
-        self.print(&text)
     }
 }
 

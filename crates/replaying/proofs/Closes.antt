@@ -1,15 +1,15 @@
 -- What a close prints: the epoch that is now closed, then its pieces in the order of the list. Assumes nothing.
-use Rattle.std.specs.Prelude.{Result, Ok, Err}
-use Prim.Native.Nat.{ℕ, suc, ◌+◌, ◌*◌, ◌≤◌}
+use Rattle.std.specs.Prelude.{Option, Some, None, Result, Ok, Err}
+use Rattle.std.specs.Result.{result_ok}
+use Rattle.std.specs.Simd.{first_chunks}
+use Prim.Native.Nat.{ℕ, suc, ◌*◌, ◌≤◌}
 use mathlib.Core.Path.{◌≡◌, refl, ap, sym, ◌∙◌}
 use mathlib.Core.Bool.{true}
-use mathlib.Core.List.{List, [], ◌∷◌, ◌++◌}
+use mathlib.Core.List.{List, ◌++◌}
 use native.Mathlib.Omega.{arith}
-use lib.ListN.{length, drop, get_or, length-append}
-use lib.Seq.{get_or-drop, drop-drop}
-use Rattle.model.specs.Lists.{upward}
+use lib.ListN.{length, take, drop, length-append}
 use Rattle.model.specs.Account.{Account, Named, refused, found}
-use Rattle.model.specs.Closing.{Piece, close, listed, pairs, LEAST_LIST, judge_room, close_judged, close_from}
+use Rattle.model.specs.Closing.{close, listed, pairs, LEAST_LIST, judge_room, close_judged, close_from}
 use Rattle.model.specs.Image.{each}
 use Rattle.model.specs.declared.Refusal.{Refusal}
 use Rattle.model.proofs.Tests.{no_way}
@@ -20,32 +20,24 @@ use Rattle.standby.specs.Closing as standby
 use Rattle.standby.specs.Closing.{EpochClosed}
 use Rattle.overview.specs.Overview.{row_at}
 use Rattle.overview.specs.declared.Row.{Row}
-use Rattle.lines.specs.Lines.{epoch_line, piece_line}
-use Rattle.replaying.specs.Replaying.{piece_text, closed_text, close_answer, LotClosed, NextClosed, pairs_text}
-
--- ---- the list
-
-lines_from : (l rest : List ℕ) (ps : List Piece) (n : ℕ) → drop (n * 2) l ≡ pairs ps ++ rest
-    → upward (length ps) n (λ i. piece_line (get_or l (i * 2) 0) (get_or l (i * 2 + 1) 0)) ≡ each piece_text ps
-unfolding upward each pairs
-lines_from l rest [] n e = refl
-lines_from l rest (p ∷ ps) n e =
-    let z : n * 2 + 0 ≡ n * 2 = omega arith in
-    let fragment : get_or l (n * 2) 0 ≡ p.fragment = ap (λ j. get_or l j 0) (sym z) ∙ sym (get_or-drop (n * 2) l 0 0) ∙ ap (λ x. get_or x 0 0) e in
-    let transaction : get_or l (n * 2 + 1) 0 ≡ p.transaction = sym (get_or-drop (n * 2) l 1 0) ∙ ap (λ x. get_or x 1 0) e in
-    let next : n * 2 + 2 ≡ suc n * 2 = omega arith in
-    let later : drop (suc n * 2) l ≡ pairs ps ++ rest = ap (λ j. drop j l) (sym next) ∙ sym (drop-drop 2 (n * 2) l) ∙ ap (λ x. drop 2 x) e in
-    rw (fragment, transaction, lines_from l rest ps (suc n) later)
-
-lines_of_list : (l rest : List ℕ) (ps : List Piece) (count : ℕ) → count ≡ length ps → l ≡ pairs ps ++ rest → pairs_text count l ≡ each piece_text ps
-unfolding pairs_text
-lines_of_list l rest ps count counted e = rw counted (lines_from l rest ps 0 e)
+use Rattle.lines.specs.Lines.{epoch_line}
+use Rattle.replaying.proofs.Pairs.{lines_of_pieces}
+use Rattle.replaying.specs.Replaying.{closed_text, close_answer, LotClosed, NextClosed, pair_text}
 
 -- ---- the answer
 
 judged_count : (o : Result (Unit {0}) Refusal) (n count : ℕ) → close_judged o n ≡ Ok count → count ≡ n
 judged_count (Ok tt) n count e = cc
 judged_count (Err r) n count e = no_way cc
+
+-- what `ok` tells of an answer
+pub counted_law : (r : Result ℕ Refusal) {count : ℕ} → Some count ≡ result_ok r → r ≡ Ok count
+counted_law (Ok n) e = cc
+counted_law (Err why) e = no_way cc
+
+refused_law : (r : Result ℕ Refusal) → None ≡ result_ok r → (why : Refusal) × (r ≡ Err why)
+refused_law (Ok n) e = no_way cc
+refused_law (Err why) e = (why, refl)
 
 pub same_fit : (m m' : List ℕ) → length m' ≡ length m → lot_fits 1 0 m' ≡ lot_fits 1 0 m
 unfolding lot_fits memory_fits
@@ -56,10 +48,11 @@ module _ {m m' list list' : List ℕ} (number : ℕ) {r : Result ℕ Refusal} (w
   unfolding standby.close_answer
   answered = w.answer ∙ ap (close_from (named m 1 0 number)) long
 
-  pub not_closed : {out : List ℕ} {why : Refusal} → r ≡ Err why → out ≡ [] → NextClosed m m' number out
-  not_closed {out} {why} e p =
-      let s : close_answer m number ≡ Err why = sym answered ∙ e in
-      record { closed = rw s (rw e at w.closed).0; printed = rw s p }
+  pub not_closed : {out : Option (List ℕ)} → None ≡ result_ok r → out ≡ None → NextClosed m m' number out
+  not_closed {out} none p =
+      let q = refused_law r none in
+      let s : close_answer m number ≡ Err q.0 = sym answered ∙ q.1 in
+      record { closed = rw s (rw q.1 at w.closed).0; printed = rw s p }
 
   -- the account of which an epoch was closed
   pub record Of (count : ℕ) : Type 0 where
@@ -94,11 +87,12 @@ module _ {m m' list list' : List ℕ} (number : ℕ) {r : Result ℕ Refusal} (w
       let o = closed_of_law e in
       omega (arith, h, ap length o.pieces ∙ length-append (pairs (listed o.account)) (drop (2 * count) list), length_numbers (listed o.account), o.counted)
 
-  pub epoch_printed : {between out : List ℕ} {count : ℕ} {row : Row} → r ≡ Ok count → row ≡ row_at m' 1 0 → between ≡ epoch_line row.closed count → out ≡ between ++ pairs_text count list' → NextClosed m m' number out
+  pub epoch_printed : {between out : List ℕ} {parts : List (List ℕ)} {count k : ℕ} {row : Row} → r ≡ Ok count → row ≡ row_at m' 1 0 → between ≡ epoch_line row.closed count
+      → count ≤ k → parts ≡ first_chunks 2 k list' → out ≡ between ++ each pair_text (take count parts) → NextClosed m m' number (Some out)
   unfolding closed_text
-  epoch_printed {between} {out} {count} {row} e there first second =
+  epoch_printed {between} {out} {parts} {count} {k} {row} e there first low pieces second =
       let o = closed_of_law e in
       let s : close_answer m number ≡ Ok count = sym answered ∙ e in
       let line : epoch_line row.closed count ≡ epoch_line (suc o.account.closed) (length (listed o.account)) =
       ap (λ x. epoch_line x.closed count) there ∙ ap (λ n. epoch_line n count) o.row ∙ ap (epoch_line (suc o.account.closed)) o.counted in
-      record { closed = rw s o.left; printed = rw (s, o.is_named) (second ∙ rw (first ∙ line, lines_of_list _ _ _ _ o.counted o.pieces)) }
+      record { closed = rw s o.left; printed = rw (s, o.is_named) (ap Some (second ∙ rw (first ∙ line, lines_of_pieces (drop (2 * count) list) (listed o.account) o.counted o.pieces low pieces))) }

@@ -52,10 +52,10 @@ module _ (m : List ℕ) (number : ℕ) where
     pub found_limits : (n.fragments ≤ 8) × (n.keys ≤ 128)
     found_limits = let f = finding_found m 1 0 number e in rw f.numbers (held_fits_law m 0 f.here.held)
 
-    pub account_printed : {between out : List ℕ} → between ≡ records_text m number n.fragments n.keys → out ≡ between ++ held_line n.held → out ≡ last_text (named m 1 0 number)
+    pub account_printed : {between out : List ℕ} → between ≡ records_text m n.number n.fragments n.keys → out ≡ between ++ held_line n.held → out ≡ last_text (named m 1 0 number)
     unfolding account_text
     account_printed {between} first second =
         let f = finding_found m 1 0 number e in
-        let first' : between ≡ each record_text (form f.account).records = rw (f.numbers, records_read f.is_named) at first in
+        let first' : between ≡ each record_text (form f.account).records = rw (f.numbers, f.here.numbered, records_read f.is_named) at first in
         let second' = rw f.numbers at second in
         rw f.is_named (second' ∙ rw first')

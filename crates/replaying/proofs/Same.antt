@@ -43,6 +43,8 @@ steps_same (runs.step x xs) (runs.step y ys) = let s = step_same x y in let l = 
 
 pub prints_same : {header : List ℕ} {entries : List (List ℕ)} {t u : List ℕ} → Prints header entries t → Prints header entries u → t ≡ u
 prints_same (runs.unfit e) (runs.unfit d) = refl
-prints_same (runs.unfit e) (runs.whole d y) = no_way (sym e ∙ d)
-prints_same (runs.whole e x) (runs.unfit d) = no_way (sym d ∙ e)
-prints_same (runs.whole e x) (runs.whole d y) = let s = steps_same x y in joined s.0 (ap account_text s.1)
+prints_same (runs.unfit e) (runs.whole r d y) = no_way (sym (rw r at e) ∙ d)
+prints_same (runs.whole r e x) (runs.unfit d) = no_way (sym (rw r at d) ∙ e)
+prints_same (runs.whole {h} r e x) (runs.whole {h = k} q d y) =
+    let same : k ≡ h = cc in
+    let s = steps_same x (rw same at y) in joined s.0 (ap account_text s.1)

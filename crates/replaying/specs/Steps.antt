@@ -1,5 +1,5 @@
 -- One entry of the program, by the page, and the calls by which the program makes that step.
-use Rattle.std.specs.Prelude.{ℕ, ◌<◌, ◌≡◌, List, [], ◌++◌, length, Ok, Err}
+use Rattle.std.specs.Prelude.{ℕ, ◌≡◌, List, [], ◌++◌, Ok, Err, Some, None}
 use Rattle.model.specs.Account.{Account}
 use Rattle.model.specs.Entry.{entry_of}
 use Rattle.model.specs.Taking as model
@@ -7,7 +7,8 @@ use Rattle.model.specs.Taking.{judge}
 use Rattle.model.specs.Closing.{judge_close, close}
 use Rattle.model.specs.declared.Refusal.{Refusal}
 use Rattle.lines.specs.Lines.{entry_line}
-use Rattle.replaying.specs.Replaying.{number_of, EntryDelivered, closed_text, NextClosed}
+use Rattle.replaying.specs.declared.Refused.{Refused}
+use Rattle.replaying.specs.Replaying.{number_of, refused_line, EntryDelivered, closed_text, NextClosed}
 
 -- ---- by the page
 
@@ -23,12 +24,12 @@ pub data Step (index : ℕ) (bytes : List ℕ) : Account → List ℕ → Accoun
 
 -- ---- by the calls: the memory, what the program writes out, and the memory afterwards
 
--- close_next, until it prints nothing
+-- close_next, until it closes none
 pub data CloseCalls (number : ℕ) : List ℕ → List ℕ → List ℕ → Type 0 where
-  stop : {m m' : List ℕ} → NextClosed m m' number [] → CloseCalls number m [] m'
-  again : {m m' m'' out text : List ℕ} → 0 < length out → NextClosed m m' number out → CloseCalls number m' text m'' → CloseCalls number m (out ++ text) m''
+  stop : {m m' : List ℕ} → NextClosed m m' number None → CloseCalls number m [] m'
+  again : {m m' m'' out text : List ℕ} → NextClosed m m' number (Some out) → CloseCalls number m' text m'' → CloseCalls number m (out ++ text) m''
 
--- deliver_entry, and close_next where that printed nothing
+-- deliver_entry, and close_next after a taken entry
 pub data EntryCalls (number index : ℕ) (bytes : List ℕ) : List ℕ → List ℕ → List ℕ → Type 0 where
-  printed : {m m' out : List ℕ} → 0 < length out → EntryDelivered m m' number index bytes out → EntryCalls number index bytes m out m'
-  silent : {m m' m'' text : List ℕ} → EntryDelivered m m' number index bytes [] → CloseCalls number m' text m'' → EntryCalls number index bytes m text m''
+  printed : {m m' : List ℕ} {why : Refused} → EntryDelivered m m' number index bytes (Err why) → EntryCalls number index bytes m (refused_line why) m'
+  silent : {m m' m'' text : List ℕ} → EntryDelivered m m' number index bytes (Ok tt) → CloseCalls number m' text m'' → EntryCalls number index bytes m text m''

@@ -3,17 +3,43 @@
 #![tactic(auto)]
 
 ghost use Rattle.std.specs.Prelude.{◌≡◌, ◌++◌, ◌+◌, ◌*◌, ◌≤◌, length};
+ghost use Rattle.model.specs.Image.{each};
 ghost use Rattle.lines.specs.declared.TheConstants.{ROOM};
 ghost use Rattle.lots.specs.Memory.{named};
-ghost use Rattle.replaying.specs.Replaying.{number_of, header_of, HeaderOpened, EntryDelivered, NextClosed, pairs_text, found_text, fragment_text, records_text, last_text};
+ghost use Rattle.standby.specs.Calls.{AccountOpened};
+ghost use Rattle.replaying.specs.Replaying.{number_of, refused_line, header_of, HeaderOpened, EntryDelivered, NextClosed, pair_text, found_text, fragment_text, records_text, last_text};
 
 use lines::Text;
+use lot::Account;
 use model::Refusal;
 
 fn number_of(refusal: Refusal) -> u64
     ensures { result ≡ number_of refusal }
 {
-    answers::refusal_numbers(refusal).number as u64
+    u64::from(answers::refusal_numbers(refusal).number)
+}
+
+// ---- refusals
+
+// The refusal of the header, or of an entry with its index, from 0.
+#[derive(Clone, Copy)]
+pub enum Refused {
+    Header(Refusal),
+    Entry(u64, Refusal),
+}
+
+impl Refused {
+    // The line that tells it.
+    pub fn line(self) -> Text
+        ensures { result ≡ refused_line self }
+    {
+        let mut line = Text::new();
+        match self {
+            Refused::Header(refusal) => line.refused_header(number_of(refusal)),
+            Refused::Entry(index, refusal) => line.refused_entry(index, number_of(refusal)),
+        }
+        line
+    }
 }
 
 // ---- the header
@@ -25,74 +51,75 @@ pub struct Header {
     pub keys: u32,
 }
 
-// The header of the first four bytes, or of fewer where the input ends.
-#[tactic(auto, unfolding(crate::specs::Replaying::header_of))]
-pub fn read_header(bytes: &[u8]) -> Header
-    ensures { result ≡ header_of bytes.now }
-{
-    if bytes.len() < 4 {
-        return Header {
-            account: 0,
-            fragments: 0,
-            keys: 0,
-        };
+impl Header {
+    // That of the first four bytes, or refusal 15 where there are fewer.
+    #[tactic(auto, unfolding(crate::specs::Replaying::header_of))]
+    pub fn read(bytes: &[u8]) -> Result<Header, Refusal>
+        ensures { result ≡ header_of bytes.now }
+    {
+        if bytes.len() < 4 {
+            return Err(Refusal::UnfitAccount);
+        }
+        Ok(Header {
+            account: u32::from(wire::get::<u16>(bytes, 0)),
+            fragments: u32::from(bytes[2]),
+            keys: u32::from(bytes[3]),
+        })
     }
-    Header {
-        account: u32::from(wire::get::<u16>(bytes, 0)),
-        fragments: u32::from(bytes[2]),
-        keys: u32::from(bytes[3]),
+
+    // Opens its account in a memory of one lot that was started.
+    fn open(self, memory: &mut [u8]) -> Result<u32, Refusal>
+        ensures { AccountOpened memory.old memory.new 1 self.account self.fragments self.keys result }
+    {
+        standby::open_account(memory, 1, self.account, self.fragments, self.keys)
     }
 }
 
-// Opens the account in a memory of one lot that was started.
-pub fn open_header(memory: &mut [u8], header: Header) -> Text
-    ensures { HeaderOpened memory.old memory.new header result }
+// Opens the account of the header that begins these bytes, in a memory of one lot that was started.
+pub fn open_header(memory: &mut [u8], bytes: &[u8]) -> Result<Header, Refused>
+    ensures { HeaderOpened memory.old memory.new (header_of bytes.now) result }
 {
-    let mut out = Text::new();
-    let opened = standby::open_account(memory, 1, header.account, header.fragments, header.keys);
-    if let Err(refusal) = opened {
-        out.refused_header(number_of(refusal));
-    }
-    out
+    let header = Header::read(bytes).map_err(Refused::Header)?;
+    header.open(memory).map_err(Refused::Header)?;
+    Ok(header)
 }
 
 // ---- an entry
 
-pub fn deliver_entry(memory: &mut [u8], account: u32, index: u64, entry: &[u8]) -> Text
+pub fn deliver_entry(
+    memory: &mut [u8],
+    account: u32,
+    index: u64,
+    entry: &[u8],
+) -> Result<(), Refused>
     ensures { EntryDelivered memory.old memory.new account index entry.now result }
 {
-    let mut out = Text::new();
-    if let Err(refusal) = standby::deliver(memory, 1, 0, account, entry) {
-        out.refused_entry(index, number_of(refusal));
-    }
-    out
+    standby::deliver(memory, 1, 0, account, entry).map_err(|refusal| Refused::Entry(index, refusal))
 }
 
 // ---- a close
 
-#[tactic(auto, unfolding(crate::specs::Replaying::pairs_text), using(crate::proofs::Printing::wrote_start, crate::proofs::Printing::wrote_upward))]
-fn put_pieces(list: &[u32; 512], count: u32, out: &mut Text)
-    requires { (count ≤ 256) × (length out.old ≤ 70) }
-    ensures { out.new ≡ out.old ++ pairs_text count list.now }
+fn put_pieces(pieces: &[[u32; 2]], out: &mut Text)
+    requires { (length pieces.now ≤ 256) × (length out.old ≤ 70) }
+    ensures { out.new ≡ out.old ++ each pair_text pieces.now }
 {
-    let (pairs, _) = list.as_chunks::<2>();
-    for [fragment, transaction] in &pairs[..count as usize] {
+    for [fragment, transaction] in pieces {
         out.piece(u64::from(*fragment), u64::from(*transaction));
     }
 }
 
-// Closes the next epoch where it can, and then prints something.
-pub fn close_next(memory: &mut [u8], account: u32) -> Text
+// Closes the next epoch where it can, and then tells it with its pieces.
+pub fn close_next(memory: &mut [u8], account: u32) -> Option<Text>
     ensures { NextClosed memory.old memory.new account result }
 {
-    let mut out = Text::new();
     let mut list = [0u32; 512];
-    if let Ok(count) = standby::close_epoch(memory, 1, 0, account, &mut list) {
-        let row = overview::row_at(memory, 1, 0);
-        out.epoch(u64::from(row.closed), u64::from(count));
-        put_pieces(&list, count, &mut out);
-    }
-    out
+    let count = standby::close_epoch(memory, 1, 0, account, &mut list).ok()?;
+    let row = overview::row_at(memory, 1, 0);
+    let mut out = Text::new();
+    out.epoch(u64::from(row.closed), u64::from(count));
+    let (pairs, _) = list.as_chunks::<2>();
+    put_pieces(&pairs[..count as usize], &mut out);
+    Some(out)
 }
 
 // ---- the end
@@ -108,42 +135,37 @@ fn put_found(fragment: u32, key: u32, found: Result<Option<u32>, Refusal>, out: 
 }
 
 #[tactic(auto, unfolding(crate::specs::Replaying::fragment_text), using(crate::proofs::Printing::wrote_start, crate::proofs::Printing::wrote_upward))]
-fn put_fragment(memory: &[u8], account: u32, fragment: u32, keys: u32, out: &mut Text)
-    requires { (keys ≤ 128) × (length out.old + 8960 ≤ ROOM) }
-    ensures wrote { out.new ≡ out.old ++ fragment_text memory.now account fragment keys }
+fn put_fragment(memory: &[u8], account: Account, fragment: u32, out: &mut Text)
+    requires { (account.keys ≤ 128) × (length out.old + 8960 ≤ ROOM) }
+    ensures wrote { out.new ≡ out.old ++ fragment_text memory.now account.number fragment account.keys }
     ensures upper_bound { length out.new ≤ length out.old + 8960 }
 {
-    for key in 0..keys {
-        let found = standby::read_record(memory, 1, 0, account, fragment, key);
+    let number = u32::from(account.number);
+    for key in 0..u32::from(account.keys) {
+        let found = standby::read_record(memory, 1, 0, number, fragment, key);
         put_found(fragment, key, found, out);
     }
 }
 
 #[tactic(auto, unfolding(crate::specs::Replaying::records_text), using(crate::proofs::Printing::wrote_start, crate::proofs::Printing::wrote_upward))]
-fn put_records(memory: &[u8], account: u32, fragments: u32, keys: u32, out: &mut Text)
-    requires { (fragments ≤ 8) × (keys ≤ 128) × (length out.old + 71680 ≤ ROOM) }
-    ensures wrote { out.new ≡ out.old ++ records_text memory.now account fragments keys }
+fn put_records(memory: &[u8], account: Account, out: &mut Text)
+    requires { (account.fragments ≤ 8) × (account.keys ≤ 128) × (length out.old + 71680 ≤ ROOM) }
+    ensures wrote { out.new ≡ out.old ++ records_text memory.now account.number account.fragments account.keys }
     ensures upper_bound { length out.new ≤ length out.old + 71680 }
 {
-    for fragment in 0..fragments {
-        put_fragment(memory, account, fragment, keys, out);
+    for fragment in 0..u32::from(account.fragments) {
+        put_fragment(memory, account, fragment, out);
     }
 }
 
-// The records of the account and how many entries it holds.
+// The records of the account and how many entries it holds; nothing where the lot is not this account's.
 pub fn put_account(memory: &[u8], account: u32) -> Text
     ensures { result ≡ last_text (named memory.now 1 0 account) }
 {
     let mut out = Text::new();
-    if let Ok(a) = lots::find(memory, 1, 0, account) {
-        put_records(
-            memory,
-            account,
-            u32::from(a.fragments),
-            u32::from(a.keys),
-            &mut out,
-        );
-        out.held(u64::from(a.held));
+    if let Ok(found) = lots::find(memory, 1, 0, account) {
+        put_records(memory, found, &mut out);
+        out.held(u64::from(found.held));
     }
     out
 }

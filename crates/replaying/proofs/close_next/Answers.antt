@@ -1,15 +1,27 @@
 -- An epoch is closed where it can, and then printed with its pieces. Assumes nothing.
-use mathlib.Core.Path.{refl, ap}
+use mathlib.Core.Path.{refl, ap, sym}
 use native.Mathlib.Omega.{arith}
 use lib.ListN.{length}
-use Rattle.replaying.proofs.Closes.{not_closed, count_fits, epoch_printed}
+use lib.Seq.{length-take-le}
+use Rattle.replaying.proofs.Closes.{counted_law, not_closed, count_fits, epoch_printed}
 use Rattle.replaying.proofs.close_next.Goals as goal
 
+pub slice_bounds-put_pieces-end : goal.slice_bounds-put_pieces-end
+slice_bounds-put_pieces-end c =
+    let low = count_fits _ c.close_epoch.ensures refl (counted_law _ c.in_ok-count.ensures.value) c.close_epoch.auto.list in
+    sym (length-take-le c.in_ok-count.count c.as_chunks.result.0.now (omega (arith, c.as_chunks.ensures.front_len)))
+
 pub put_pieces-requires : goal.put_pieces-requires
-put_pieces-requires c = (count_fits _ c.in-Ok.ensures refl refl c.close_epoch.auto.list, omega (arith, c.epoch.ensures.upper_bound, ap length c.new-out.ensures))
+put_pieces-requires c =
+    let low = count_fits _ c.close_epoch.ensures refl (counted_law _ c.in_ok-count.ensures.value) c.close_epoch.auto.list in
+    let z = length-take-le c.in_ok-count.count c.as_chunks.result.0.now (omega (arith, c.as_chunks.ensures.front_len)) in
+    (omega arith, omega (arith, c.epoch.ensures.upper_bound, ap length c.new-out.ensures))
 
-pub returns-in_default : goal.returns-in_default
-returns-in_default c = not_closed _ c.close_epoch.ensures refl c.in_default.is c.new-out.ensures
+pub returns-in_err-count : goal.returns-in_err-count
+returns-in_err-count c = not_closed _ c.close_epoch.ensures refl c.in_err-count.ensures.value c.from_residual.ensures
 
-pub returns-in-Ok : goal.returns-in-Ok
-returns-in-Ok c = epoch_printed _ c.in-Ok.ensures refl refl c.row_at-row.ensures (rw (c.new-out.ensures, c.from.ensures, c.from-in-Ok.ensures) at c.epoch.ensures.wrote) c.put_pieces.ensures
+pub returns : goal.returns
+returns c =
+    let low = count_fits _ c.close_epoch.ensures refl (counted_law _ c.in_ok-count.ensures.value) c.close_epoch.auto.list in
+    epoch_printed _ c.close_epoch.ensures refl (counted_law _ c.in_ok-count.ensures.value) c.row_at-row.ensures
+    (rw (c.new-out.ensures, c.from.ensures, c.from-2.ensures) at c.epoch.ensures.wrote) (omega arith) c.as_chunks.ensures.front c.put_pieces.ensures
