@@ -108,7 +108,8 @@ fn trailer_behind(account: Account, end: usize) -> Trailer
     }
 }
 
-// Saves the account that a lot holds; `account` is what a look at the lot found. It answers the image's length.
+// Saves the account that a lot holds; `account` is what a look at the lot found. It answers the image's length. (As an `OpenLot` was tried: of
+// bytes that a struct lends the proof does not have that each is below 256.)
 pub fn save_lot(lot: &[u8], account: Account, image: &mut [u8]) -> u32
     requires { (length lot.now ≡ SIZE) × (look_of lot.now ≡ Holds account) × (LONGEST_IMAGE ≤ length image.old) }
     ensures { LotSaved lot.now image.old image.new result }

@@ -2,14 +2,14 @@
 // It stands on `model`, `lot` and `writes`.
 #![tactic(auto)]
 
-ghost use Rattle.std.specs.Prelude.{◌≡◌, true, ◌+◌, ◌*◌, ◌≤◌, length};
+ghost use Rattle.std.specs.Prelude.{◌≡◌, true, ◌+◌, ◌*◌, ◌≤◌, length, Ok, Err, MatchResult};
 ghost use Rattle.model.specs.Account.{account_fits, fresh};
 ghost use Rattle.lot.specs.Layout.{SIZE};
 ghost use Rattle.lot.specs.View.{free, holds};
 ghost use Rattle.lots.specs.Memory.{memory_fits, lot_fits, lot_of, view_of, Becomes, named};
 ghost use Rattle.lots.specs.Looks.{look_from, looks_damaged, looks_of, finding_of, survey_of, with_look, place_in};
 
-use lot::{Account, Look};
+use lot::{Look, OpenLot};
 use model::Refusal;
 
 pub const MOST_LOTS: u32 = 16;
@@ -60,9 +60,9 @@ pub fn looks_of(look: Look, account: u32) -> bool
 
 // ---- a lot and an account are named
 
-// What such a call finds: the numbers of its account, or 1, 2 or 3. (The calls' own parameters: the C interface.)
-pub fn find(memory: &[u8], lots: u32, lot: u32, account: u32) -> Result<Account, Refusal>
-    ensures { result ≡ finding_of (named memory.now lots lot account) }
+// What such a call finds: the lot with the numbers of its account, or 1, 2 or 3. (The calls' own parameters: the C interface.)
+pub fn find(memory: &[u8], lots: u32, lot: u32, account: u32) -> Result<OpenLot<'_>, Refusal>
+    ensures { MatchResult result (λ found. (found.bytes.now ≡ lot_of memory.now lot) × (finding_of (named memory.now lots lot account) ≡ Ok found.account)) (λ refusal. finding_of (named memory.now lots lot account) ≡ Err refusal) }
 {
     if !lot_fits(memory, lots, lot) {
         return Err(Refusal::NoSuchLot);

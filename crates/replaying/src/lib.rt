@@ -164,8 +164,8 @@ pub fn put_account(memory: &[u8], account: u32) -> Text
 {
     let mut out = Text::new();
     if let Ok(found) = lots::find(memory, 1, 0, account) {
-        put_records(memory, found, &mut out);
-        out.held(u64::from(found.held));
+        put_records(memory, found.account, &mut out);
+        out.held(u64::from(found.account.held));
     }
     out
 }

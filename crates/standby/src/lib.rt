@@ -151,13 +151,6 @@ pub fn close_epoch(
 
 // ---- read
 
-fn record_in(memory: &[u8], lot: usize, fragment: usize, key: usize) -> Option<u32>
-    requires { (lot * SIZE + SIZE ≤ length memory.now) × (fragment < MOST_FRAGMENTS) × (key < MOST_KEYS) }
-    ensures { result ≡ found_of (record_at (records_of (lot_of memory.now lot)) fragment key) }
-{
-    lot::record_of(lots::lot_in(memory, lot), fragment, key)
-}
-
 pub fn read_record(
     memory: &[u8],
     lots: u32,
@@ -168,22 +161,16 @@ pub fn read_record(
 ) -> Result<Option<u32>, Refusal>
     ensures { result ≡ read_answer memory.now lots lot account fragment key }
 {
-    let a = lots::find(memory, lots, lot, account)?;
+    let found = lots::find(memory, lots, lot, account)?;
+    let a = found.account;
     if (fragment < u32::from(a.fragments)) & (key < u32::from(a.keys)) {
-        Ok(record_in(memory, lot as usize, fragment as usize, key as usize))
+        Ok(lot::record_of(found.bytes, fragment as usize, key as usize))
     } else {
         Err(Refusal::OutsideAccount)
     }
 }
 
 // ---- save
-
-fn save_in(memory: &[u8], lot: usize, account: lot::Account, image: &mut [u8]) -> u32
-    requires { (lot * SIZE + SIZE ≤ length memory.now) × (look_from (view_of memory.now lot) ≡ Holds account) × (LONGEST_IMAGE ≤ length image.old) }
-    ensures { LotSaved (lot_of memory.now lot) image.old image.new result }
-{
-    image::save_lot(lots::lot_in(memory, lot), account, image)
-}
 
 // The caller lends a buffer with room for the longest image.
 pub fn save_account(
@@ -199,7 +186,7 @@ pub fn save_account(
     if image.len() < image::LONGEST {
         return Err(Refusal::TooShort);
     }
-    Ok(save_in(memory, lot as usize, found, image))
+    Ok(image::save_lot(found.bytes, found.account, image))
 }
 
 // ---- load

@@ -1,5 +1,6 @@
 -- `find` answers what the named lot and account are. Assumes nothing.
 use mathlib.Core.Path.{sym, ◌∙◌}
+use Rattle.std.proofs.lemmas.Result.{MatchResult-weaker}
 use Rattle.lots.proofs.Parts.{lot_inside, lot_long}
 use Rattle.lots.proofs.Looks.{not_there, finds}
 use Rattle.lots.proofs.find.Goals as goal
@@ -7,7 +8,7 @@ use Rattle.lots.proofs.find.Goals as goal
 pub returns-then-not-lot_fits : goal.returns-then-not-lot_fits
 returns-then-not-lot_fits c =
     let a = c.args in
-    not_there a.memory.now a.lots a.lot a.account (sym c.lot_fits.ensures ∙ c.if-not-lot_fits.true)
+    sym (not_there a.memory.now a.lots a.lot a.account (sym c.lot_fits.ensures ∙ c.if-not-lot_fits.true))
 
 pub lot_in-requires : goal.lot_in-requires
 lot_in-requires c =
@@ -22,4 +23,5 @@ find-requires c =
 pub returns : goal.returns
 returns c =
     let a = c.args in
-    rw (c.find.ensures, c.lot_in.ensures) (finds a.memory.now a.lots a.lot a.account (sym c.lot_fits.ensures ∙ c.if-not-lot_fits.false))
+    let f = rw (← c.lot_in.ensures) at (finds a.memory.now a.lots a.lot a.account (sym c.lot_fits.ensures ∙ c.if-not-lot_fits.false)) in
+    MatchResult-weaker c.find.result c.find.ensures (λ x p. (p.0 ∙ c.lot_in.ensures, sym f ∙ p.1)) (λ y p. sym f ∙ p)

@@ -5,23 +5,24 @@ use Rattle.std.proofs.lemmas.Result.{err_from_is_err_and}
 use Rattle.standby.proofs.Calls.{read_refused, read_outside, read_limits, read_found}
 use Rattle.standby.proofs.read_record.Goals as goal
 
-pub record_in-requires : goal.record_in-requires
-record_in-requires c =
+pub record_of-requires : goal.record_of-requires
+record_of-requires c =
     let a = c.args in
-    read_limits a.memory.now a.lots a.lot a.account a.fragment a.key _ (sym c.in_ok-a.ensures) (rw (c.from.ensures, c.from-2.ensures) at c.if-fragment-from.true)
+    let r = read_limits a.memory.now a.lots a.lot a.account a.fragment a.key _ c.in_ok-found.ensures.1 (rw (c.from.ensures, c.from-2.ensures) at c.if-fragment-from.true) in
+    (c.in_ok-found.found.looked.size, r.1, r.2)
 
-pub returns-in_err-a : goal.returns-in_err-a
-returns-in_err-a c =
+pub returns-in_err-found : goal.returns-in_err-found
+returns-in_err-found c =
     let a = c.args in
     let e = err_from_is_err_and c.from_residual.result c.from_residual.ensures.1 in
-    rw (e.1, e.2) (read_refused a.memory.now a.lots a.lot a.account a.fragment a.key (sym c.in_err-a.ensures))
+    rw (e.1, e.2) (read_refused a.memory.now a.lots a.lot a.account a.fragment a.key c.in_err-found.ensures)
 
 pub returns-then-fragment-from : goal.returns-then-fragment-from
 returns-then-fragment-from c =
     let a = c.args in
-    ap Ok c.record_in.ensures ∙ read_found a.memory.now a.lots a.lot a.account a.fragment a.key _ (sym c.in_ok-a.ensures) (rw (c.from.ensures, c.from-2.ensures) at c.if-fragment-from.true)
+    ap Ok (rw c.in_ok-found.ensures.0 at c.record_of.ensures) ∙ read_found a.memory.now a.lots a.lot a.account a.fragment a.key _ c.in_ok-found.ensures.1 (rw (c.from.ensures, c.from-2.ensures) at c.if-fragment-from.true)
 
 pub returns-else-fragment-from : goal.returns-else-fragment-from
 returns-else-fragment-from c =
     let a = c.args in
-    read_outside a.memory.now a.lots a.lot a.account a.fragment a.key _ (sym c.in_ok-a.ensures) (rw (c.from.ensures, c.from-2.ensures) at c.if-fragment-from.false)
+    read_outside a.memory.now a.lots a.lot a.account a.fragment a.key _ c.in_ok-found.ensures.1 (rw (c.from.ensures, c.from-2.ensures) at c.if-fragment-from.false)

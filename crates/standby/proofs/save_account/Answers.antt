@@ -2,26 +2,24 @@
 use mathlib.Core.Path.{sym}
 use Rattle.std.proofs.lemmas.Result.{err_from_is_err_and}
 use native.Mathlib.Omega.{arith}
-use Rattle.standby.proofs.Saving.{save_refused, save_short, can_save, account_saved}
+use Rattle.standby.proofs.Saving.{save_refused, save_short, account_saved}
 use Rattle.standby.proofs.save_account.Goals as goal
 
 pub returns-then-image-lt-LONGEST : goal.returns-then-image-lt-LONGEST
 returns-then-image-lt-LONGEST c =
     let a = c.args in
-    save_short a.memory.now a.lots a.lot a.account a.image.now _ (sym c.in_ok-found.ensures) (omega arith)
+    save_short a.memory.now a.lots a.lot a.account a.image.now _ c.in_ok-found.ensures.1 (omega arith)
 
-pub save_in-requires : goal.save_in-requires
-save_in-requires c =
-    let a = c.args in
-    can_save a.memory.now a.lots a.lot a.account a.image.now _ (sym c.in_ok-found.ensures) (omega arith)
+pub save_lot-requires : goal.save_lot-requires
+save_lot-requires c = let found = c.in_ok-found.found in (found.looked.size, found.looked.seen, omega arith)
 
 pub returns-in_err-found : goal.returns-in_err-found
 returns-in_err-found c =
     let a = c.args in
     let e = err_from_is_err_and c.from_residual.result c.from_residual.ensures.1 in
-    rw (e.1, e.2) (save_refused a.memory.now a.lots a.lot a.account a.image.now (sym c.in_err-found.ensures))
+    rw (e.1, e.2) (save_refused a.memory.now a.lots a.lot a.account a.image.now c.in_err-found.ensures)
 
 pub returns : goal.returns
 returns c =
     let a = c.args in
-    account_saved a.memory.now a.lots a.lot a.account a.image.now _ (sym c.in_ok-found.ensures) (omega arith) c.save_in.ensures
+    account_saved a.memory.now a.lots a.lot a.account a.image.now _ c.in_ok-found.ensures.1 (omega arith) (rw c.in_ok-found.ensures.0 at c.save_lot.ensures)
