@@ -2,7 +2,7 @@
 use Rattle.std.specs.Prelude.{Bool, ℤ, if◌then◌else◌, Result, Ok, Err}
 use Rattle.model.specs.Distance.{distance, below_zero, above_zero}
 use Prim.Native.Nat.{ℕ, ◌+◌, ◌*◌, ◌≤◌, ◌<◌}
-use mathlib.Core.Path.{◌≡◌, ◌∙◌, refl}
+use mathlib.Core.Path.{◌≡◌, ◌∙◌}
 use mathlib.Core.Bool.{true, false}
 use mathlib.Core.List.{List}
 use native.Mathlib.Omega.{arith}
@@ -10,7 +10,6 @@ use lib.ListN.{length, drop}
 use borrow.Author.Tests.{eq-eqb, ne_eqb}
 use Rattle.model.specs.Entry.{LENGTH, entry_of, fits, inside}
 use Rattle.model.specs.Account.{Held}
-use Rattle.model.specs.Stages.{stage}
 use Rattle.model.specs.Taking.{judge_entry, judge}
 use Rattle.model.specs.Decoding.{counters_of, mine}
 use Rattle.model.specs.Section.{items}
@@ -49,15 +48,6 @@ module _ (c : Counters) (hs : List Held) (n : ℕ) (e : Entry) where
       go true a o q = q
       go false true o q = q
       go false false o q = no_way cc
-
-  pub due : Ok tt ≡ sequence_of e.sequence c.next → judge_due c.epoch (stage e.transaction hs) n e ≡ judge_inside c hs n e
-  unfolding judge_inside sequence_of
-  due q = go (below_zero d) (above_zero d) _ q
-    where
-      go : (b a : Bool) (o : Result (Unit {0}) Refusal) → Ok (tt {0}) ≡ (if b then Err Seen else if a then Err Gap else Ok (tt {0})) → o ≡ (if b then Err Seen else if a then Err Gap else o)
-      go true a o q = no_way cc
-      go false true o q = no_way cc
-      go false false o q = refl
 
 -- ---- 4
 

@@ -39,7 +39,7 @@ fn judge_due(held: Section, open: u32, e: Entry) -> Result<(), Refusal>
 }
 
 // Refusals 7 to 11, of an entry inside its account.
-#[tactic(auto, using(crate::proofs::Judging::due))]
+#[tactic(auto, unfolding(crate::specs::Delivering::judge_inside, entry::specs::Sequence::sequence_of))]
 fn judge_inside(lot: OpenLot, e: Entry) -> Result<(), Refusal>
     requires { e.fragment < lot.account.fragments }
     ensures { result ≡ judge_inside (counters_of (drop (e.fragment * 8) (streams_of lot.entry.bytes.now))) (mine e.fragment (items lot.entry.account.held (places_of lot.entry.bytes.now))) lot.entry.account.held e }
