@@ -61,6 +61,7 @@ fn install_in(lot: &mut [u8], list: &mut [u32], held: Section<'_>, account: Acco
 }
 
 // Writes what the verdicts leave of the places as they stood into those of the lot, and answers how many they are.
+#[tactic(auto, using(crate::proofs::ClosedLot::places_kept))]
 fn keep_in(lot: &mut [u8], held: Section<'_>, verdicts: &[Option<Verdict>; 256]) -> usize
     requires { length lot.old ≡ SIZE }
     ensures { PlacesKept lot.old lot.new held.entry.bytes.now verdicts.now held.entry.count result }

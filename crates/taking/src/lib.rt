@@ -78,6 +78,7 @@ pub fn judge_lot(lot: OpenLot, bytes: &[u8]) -> Result<(), Refusal>
 // ---- writing
 
 // Steps the counters of stream i, and answers the epoch that was open there. `mark` is a Bool, as in `stepped` of the model.
+#[tactic(auto, using(crate::proofs::Writing::stream_stepped))]
 fn step_stream(lot: &mut [u8], i: usize, mark: bool) -> u32
     requires { (length lot.old ≡ SIZE) × (i < 8) × (mark ≡ true → (counters_of (drop (i * 8) (streams_of lot.old))).epoch ≤ LAST_MARK) }
     ensures { StreamStepped lot.old lot.new i mark result }
@@ -88,6 +89,7 @@ fn step_stream(lot: &mut [u8], i: usize, mark: bool) -> u32
 }
 
 // Holds an entry where n are held: the places are lent to be written, as bytes and a count.
+#[tactic(auto, using(crate::proofs::Writing::held_in_law))]
 fn hold_in(lot: &mut [u8], n: usize, bytes: &[u8], epoch: u32)
     requires { (length lot.old ≡ SIZE) × (n < 256) × (length bytes.now ≡ 16) }
     ensures { HeldIn lot.old lot.new n bytes.now epoch }
