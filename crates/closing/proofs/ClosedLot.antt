@@ -5,7 +5,7 @@ use Rattle.std.specs.Prelude.{Option}
 use mathlib.Core.List.{List, [], ◌∷◌, ◌++◌, map}
 use native.Mathlib.Omega.{arith}
 use native.Mathlib.Decide.{dec_lt}
-use lib.ListN.{length, get_or, take, drop}
+use lib.ListN.{length, take, drop}
 use borrow.Author.Tests.{leb-true, ne_eqb}
 use Rattle.model.specs.Lists.{upward}
 use Rattle.model.specs.Account.{Held, Account, account_fits, held_count}
@@ -34,7 +34,6 @@ use Rattle.survivors.specs.Left.{Left}
 use Rattle.epoch.specs.Closed.{Fits, Closable, listed_in, Installed}
 use Rattle.epoch.proofs.Closing.{stays_held}
 use Rattle.closing.specs.Closing.{Due, RecordsInstalled, PlacesKept, closed_numbers, CloseDone}
-use Rattle.closing.proofs.Judging.{next_epoch}
 
 -- ---- what may be closed
 
@@ -56,10 +55,10 @@ closes l k =
       fit = rw c (section_fits_law (head_of l) (streams_of l) (places_of l) (records_of l) a y f);
     })
 
-pub closable : (l : List ℕ) {n : numbers.Account} (k : Looked l n) → ((i : ℕ) → get_or l i 0 < 256) → (list : List ℕ) → 512 ≤ length list
+pub closable : (l : List ℕ) {n : numbers.Account} (k : Looked l n) → n.closed < 4294967295 → (list : List ℕ) → 512 ≤ length list
     → Closable (places_of l) (records_of l) list n.fragments n.held n.closed
-closable l k b list room =
-    record { places = length_places l k.size; records = length_records l k.size; long = room; most = held_most l k; next = next_epoch l k b; fits = closes l k }
+closable l k next list room =
+    record { places = length_places l k.size; records = length_records l k.size; long = room; most = held_most l k; next = next; fits = closes l k }
 
 -- ---- one section
 

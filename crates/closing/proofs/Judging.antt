@@ -39,8 +39,11 @@ module _ (l : List ℕ) (room : ℕ) where
 
 -- ---- the next epoch is a number of four bytes
 
+pub stream_bytes : (l : List ℕ) → ((i : ℕ) → get_or l i 0 < 256) → (i : ℕ) → i < 64 → get_or (streams_of l) i 0 < 256
+stream_bytes l b i q = rw (get_or-take 64 (drop 16 l) i 0 q, get_or-drop 16 l i 0) (b (16 + i))
+
 module _ (l : List ℕ) {n : numbers.Account} (k : Looked l n) where
-  pub next_epoch : ((i : ℕ) → get_or l i 0 < 256) → n.closed < 4294967295
+  pub next_epoch : ((i : ℕ) → i < 64 → get_or (streams_of l) i 0 < 256) → n.closed < 4294967295
   unfolding account_fits number32
   next_epoch b =
       let h = looked_held l k.seen in
@@ -48,43 +51,42 @@ module _ (l : List ℕ) {n : numbers.Account} (k : Looked l n) where
       let w = known k a h.holds_it in
       let f = holds_well_formed l h.holds_it in
       let some : 0 < a.fragments = leb-true 1 a.fragments (nth _ f.fits 2) in
-      let byte : (i : ℕ) → i < 64 → get_or (streams_of l) i 0 < 256 = λ i q. rw (get_or-take 64 (drop 16 l) i 0 q, get_or-drop 16 l i 0) (b (16 + i)) in
       let e = sym (ap (λ c. c.epoch) (w.streams.counters 0 some)) ∙ epoch_is (streams_of l) 0 in
-      rw w.numbers_are (omega (arith, f.opened 0 some, e, byte 4 (omega arith), byte 5 (omega arith), byte 6 (omega arith), byte 7 (omega arith)))
+      rw w.numbers_are (omega (arith, f.opened 0 some, e, b 4 (omega arith), b 5 (omega arith), b 6 (omega arith), b 7 (omega arith)))
 
   -- ---- 12
 
-  pub limits : (s : List ℕ) → ((i : ℕ) → get_or l i 0 < 256) → s ≡ streams_of l → (n.fragments ≤ 8) × (n.fragments * 8 ≤ length s) × (n.closed < 4294967295)
-  limits s b e =
+  pub limits : ((i : ℕ) → i < 64 → get_or (streams_of l) i 0 < 256) → (n.fragments ≤ 8) × (n.fragments * 8 ≤ length (streams_of l)) × (n.closed < 4294967295)
+  limits b =
       let h = looked_held l k.seen in
       let w = known k h.account h.holds_it in
       let few : n.fragments ≤ 8 = rw w.numbers_are w.few in
-      (few, rw e (omega (arith, length_streams l k.size)), next_epoch b)
+      (few, omega (arith, length_streams l k.size), next_epoch b)
 
-  module _ (s : List ℕ) {byte ones : ℕ} (e : s ≡ streams_of l) (m : MissingMarks s n.closed n.fragments byte ones) (a : Account) (v : view_lot l ≡ holds a) where
-    each : (i : ℕ) → i < a.fragments → missing_in s n.closed i ≡ missing a i
-    unfolding missing_in missing
-    each i q = let w = known k a v in rw (w.numbers_are, e, w.streams.counters i q)
+  module _ {byte ones : ℕ} (m : MissingMarks (streams_of l) n.closed n.fragments byte ones) where
+    module _ (a : Account) (v : view_lot l ≡ holds a) where
+      each : (i : ℕ) → i < a.fragments → missing_in (streams_of l) n.closed i ≡ missing a i
+      unfolding missing_in missing
+      each i q = let w = known k a v in rw (w.numbers_are, w.streams.counters i q)
 
-    bits_same : (p q : ℕ → _) (f : ℕ) → ((i : ℕ) → i < f → p i ≡ q i) → bits_of p f ≡ bits_of q f
-    unfolding bits_of
-    bits_same p q zero w = refl
-    bits_same p q (suc f) w = rw (w f (omega arith), bits_same p q f (λ i h. w i (omega arith)))
+      bits_same : (p q : ℕ → _) (f : ℕ) → ((i : ℕ) → i < f → p i ≡ q i) → bits_of p f ≡ bits_of q f
+      unfolding bits_of
+      bits_same p q zero w = refl
+      bits_same p q (suc f) w = rw (w f (omega arith), bits_same p q f (λ i h. w i (omega arith)))
 
-    fragments_are : n.fragments ≡ a.fragments
-    fragments_are = ap (λ x. x.fragments) (known k a v).numbers_are
+      fragments_are : n.fragments ≡ a.fragments
+      fragments_are = ap (λ x. x.fragments) (known k a v).numbers_are
 
-    pub many_are : ones ≡ count_below (missing a) a.fragments
-    many_are = m.many ∙ rw fragments_are (sum_same (λ i. one (missing a i)) (λ i. one (missing_in s n.closed i)) a.fragments (λ i q. ap one (each i q)))
+      many_are : ones ≡ count_below (missing a) a.fragments
+      many_are = m.many ∙ rw fragments_are (sum_same (λ i. one (missing a i)) (λ i. one (missing_in (streams_of l) n.closed i)) a.fragments (λ i q. ap one (each i q)))
 
-    pub bits_are : byte ≡ bits_of (missing a) a.fragments
-    bits_are = m.bits ∙ rw fragments_are (bits_same (missing_in s n.closed) (missing a) a.fragments each)
+      bits_are : byte ≡ bits_of (missing a) a.fragments
+      bits_are = m.bits ∙ rw fragments_are (bits_same (missing_in (streams_of l) n.closed) (missing a) a.fragments each)
 
-  module _ (s : List ℕ) {byte ones : ℕ} (e : s ≡ streams_of l) (m : MissingMarks s n.closed n.fragments byte ones) where
     pub all_there : ones ≡ 0 → MarksJudged l (Ok tt)
     unfolding judge_close
-    all_there z a v = rw (eq-eqb (count_below (missing a) a.fragments) 0 (sym (many_are s e m a v) ∙ z))
+    all_there z a v = rw (eq-eqb (count_below (missing a) a.fragments) 0 (sym (many_are a v) ∙ z))
 
     pub some_missing : (ones ≡ 0 → ⊥) → MarksJudged l (Err (MarkMissing byte ones))
     unfolding judge_close
-    some_missing z a v = rw (bits_are s e m a v, many_are s e m a v, ne_eqb (count_below (missing a) a.fragments) 0 (λ q. z (many_are s e m a v ∙ q)))
+    some_missing z a v = rw (bits_are a v, many_are a v, ne_eqb (count_below (missing a) a.fragments) 0 (λ q. z (many_are a v ∙ q)))

@@ -5,25 +5,24 @@
 
 ghost use Rattle.std.specs.Prelude.{◌≡◌, ◌≤◌, ◌<◌, length};
 ghost use Rattle.lot.specs.Layout.{SIZE, records_of};
-ghost use Rattle.lot.specs.Look.{Looked};
 ghost use Rattle.epoch.specs.Closed.{Closable};
 ghost use Rattle.closing.specs.Closing.{MarksJudged, Judged, Due, RecordsInstalled, PlacesKept, closed_numbers, CloseDone, LotClosed};
 
 use epoch::Applied;
 use lookback::Section;
-use lot::Account;
+use lot::{Account, OpenLot};
 use model::Refusal;
 use verdicts::Verdict;
 
 // The least room for a list: the pieces of 256 entries.
 pub const LEAST_LIST: usize = 512;
 
-// Refusal 12, of a lot that has been looked at.
-fn judge_marks(lot: &[u8], account: Account) -> Result<(), Refusal>
-    requires { Looked lot.now account }
-    ensures { MarksJudged lot.now result }
+// Refusal 12.
+fn judge_marks(lot: OpenLot) -> Result<(), Refusal>
+    ensures { MarksJudged lot.entry.bytes.now result }
 {
-    let m = epoch::missing_marks(&lot[lot::STREAMS], account.fragments, account.closed);
+    let streams = lot.streams();
+    let m = epoch::missing_marks(streams, lot.account.fragments, lot.account.closed);
     if m.ones == 0 {
         return Ok(());
     }
@@ -34,14 +33,14 @@ fn judge_marks(lot: &[u8], account: Account) -> Result<(), Refusal>
 }
 
 // Refusals 16 and 12.
-pub fn judge_lot(lot: &[u8], account: Account, room: usize) -> Result<(), Refusal>
-    requires { Looked lot.now account }
-    ensures { Judged lot.now room result }
+#[tactic(auto, using(crate::proofs::Judging::too_short))]
+pub fn judge_lot(lot: OpenLot, room: usize) -> Result<(), Refusal>
+    ensures { Judged lot.entry.bytes.now room result }
 {
     if room < LEAST_LIST {
         return Err(Refusal::TooShort);
     }
-    judge_marks(lot, account)
+    judge_marks(lot)
 }
 
 // (A lot is a slice, as in `writes`, which has why.)
@@ -62,6 +61,7 @@ fn install_in(lot: &mut [u8], list: &mut [u32], held: Section<'_>, account: Acco
 }
 
 // Writes what the verdicts leave of the places as they stood into those of the lot, and answers how many they are.
+#[tactic(auto, using(crate::proofs::ClosedLot::places_kept))]
 fn keep_in(lot: &mut [u8], held: Section<'_>, verdicts: &[Option<Verdict>; 256]) -> usize
     requires { length lot.old ≡ SIZE }
     ensures { PlacesKept lot.old lot.new held.entry.bytes.now verdicts.now held.entry.count result }
@@ -90,6 +90,7 @@ pub fn close_held(lot: &mut [u8], account: Account, list: &mut [u32]) -> u32
     let held = Section::new(&old, usize::from(account.held));
     let applied = install_in(lot, list, held, account);
     let left = keep_in(lot, held, &applied.verdicts);
+    // `left` is at most the held count, which is a u16: `try_from` would have an `Err` that can't be.
     writes::set_head(lot, closed_numbers(account, left as u16));
     applied.pieces
 }
@@ -97,11 +98,13 @@ pub fn close_held(lot: &mut [u8], account: Account, list: &mut [u32]) -> u32
 // ---- the answer
 
 // Refusals 2, 3, 16 and 12, then the close.
+#[tactic(auto, using(crate::proofs::Answers::not_found))]
 pub fn close_lot(lot: &mut [u8], number: u32, list: &mut [u32]) -> Result<u32, Refusal>
     requires { length lot.old ≡ SIZE }
     ensures { LotClosed lot.old lot.new number list.old list.new result }
 {
-    let account = lot::find(lot, number)?;
-    judge_lot(lot, account, list.len())?;
+    let found = lot::find(lot, number)?;
+    judge_lot(found, list.len())?;
+    let account = found.account;
     Ok(close_held(lot, account, list))
 }

@@ -2,50 +2,39 @@
 use Rattle.std.specs.Prelude.{Bool, ℤ, if◌then◌else◌, Result, Ok, Err}
 use Rattle.model.specs.Distance.{distance, below_zero, above_zero}
 use Prim.Native.Nat.{ℕ, ◌+◌, ◌*◌, ◌≤◌, ◌<◌}
-use mathlib.Core.Path.{◌≡◌, ◌∙◌, refl}
+use mathlib.Core.Path.{◌≡◌, ◌∙◌}
 use mathlib.Core.Bool.{true, false}
 use mathlib.Core.List.{List}
 use native.Mathlib.Omega.{arith}
 use lib.ListN.{length, drop}
-use borrow.Author.Tests.{eq-eqb, ne_eqb, le-leb, lt-leb}
-use Rattle.model.specs.Entry.{LENGTH, MARK, entry_of, fits, inside}
-use Rattle.model.specs.Account.{Held, MOST_HELD}
-use Rattle.model.specs.Stages.{stage, takes}
+use borrow.Author.Tests.{eq-eqb, ne_eqb}
+use Rattle.model.specs.Entry.{LENGTH, entry_of, fits, inside}
+use Rattle.model.specs.Account.{Held}
 use Rattle.model.specs.Taking.{judge_entry, judge}
 use Rattle.model.specs.Decoding.{counters_of, mine}
 use Rattle.model.specs.Section.{items}
 use Rattle.model.specs.declared.Entry.{Entry}
-use Rattle.model.specs.declared.Stage.{Stage}
 use Rattle.model.specs.declared.Counters.{Counters}
-use Rattle.model.specs.declared.Refusal.TheVariants.{WrongLength, Unfit, OutsideAccount, Seen, Gap, OutOfTurn, Full}
+use Rattle.model.specs.declared.Refusal.TheVariants.{WrongLength, Unfit, OutsideAccount, Seen, Gap}
 use Rattle.model.proofs.Tests.{no_way}
 use Rattle.model.proofs.Judged.{own_fragment}
 use Rattle.model.specs.declared.Refusal.{Refusal}
 use Rattle.entry.specs.Sequence.{sequence_of}
 use Rattle.lot.specs.Layout.{streams_of, places_of}
 use Rattle.lot.specs.declared.Account as numbers
-use Rattle.lot.proofs.Lengths.{length_streams, length_places}
+use Rattle.lot.proofs.Lengths.{length_streams}
 use Rattle.lot.specs.Look.{Looked}
 use Rattle.lot.proofs.Looked.{looked_held, known}
 use Rattle.taking.specs.Delivering.{judge_due, judge_inside, EntryJudged, Judged}
 
--- ---- 10 and 11, of an entry that is no mark
+-- ---- 7 and 8, by the counters of the stream
 
-module _ (o n : ℕ) (s : Stage) (e : Entry) (no_mark : e.kind ≡ MARK → ⊥) where
-  pub out_of_turn : takes e.kind s ≡ false → Err OutOfTurn ≡ judge_due o s n e
-  unfolding judge_due
-  out_of_turn t = rw (ne_eqb e.kind MARK no_mark, t)
-
-  module _ (t : takes e.kind s ≡ true) where
-    pub taken : n < MOST_HELD → Ok tt ≡ judge_due o s n e
-    unfolding judge_due
-    taken l = rw (ne_eqb e.kind MARK no_mark, t, lt-leb MOST_HELD n l)
-
-    pub full : MOST_HELD ≤ n → Err Full ≡ judge_due o s n e
-    unfolding judge_due
-    full l = rw (ne_eqb e.kind MARK no_mark, t, le-leb MOST_HELD n l)
-
--- ---- 7 and 8
+pub fragment_fits : (l : List ℕ) {n : numbers.Account} → Looked l n → (i : ℕ) → i < n.fragments → i * 8 + 8 ≤ length (streams_of l)
+fragment_fits l {n} k i q =
+    let h = looked_held l k.seen in
+    let w = known k h.account h.holds_it in
+    let few : n.fragments ≤ 8 = rw w.numbers_are w.few in
+    omega (arith, length_streams l k.size)
 
 module _ (c : Counters) (hs : List Held) (n : ℕ) (e : Entry) where
   abbrev d : ℤ
@@ -59,15 +48,6 @@ module _ (c : Counters) (hs : List Held) (n : ℕ) (e : Entry) where
       go true a o q = q
       go false true o q = q
       go false false o q = no_way cc
-
-  pub due : Ok tt ≡ sequence_of e.sequence c.next → judge_due c.epoch (stage e.transaction hs) n e ≡ judge_inside c hs n e
-  unfolding judge_inside sequence_of
-  due q = go (below_zero d) (above_zero d) _ q
-    where
-      go : (b a : Bool) (o : Result (Unit {0}) Refusal) → Ok (tt {0}) ≡ (if b then Err Seen else if a then Err Gap else Ok (tt {0})) → o ≡ (if b then Err Seen else if a then Err Gap else o)
-      go true a o q = no_way cc
-      go false true o q = no_way cc
-      go false false o q = refl
 
 -- ---- 4
 
@@ -92,18 +72,14 @@ module _ (l : List ℕ) (e : Entry) where
     unfolding judge_entry
     outside q a v = let o = rw (known k a v).numbers_are at q in rw (fit, o)
 
-    module _ (within : inside n.fragments n.keys e ≡ true) where
-      pub limits : (e.fragment * 8 + 8 ≤ length (streams_of l)) × (length (places_of l) ≡ 5120) × (n.held ≤ 256)
-      limits =
-          let h = looked_held l k.seen in
-          let w = known k h.account h.holds_it in
-          let m = own_fragment _ _ e (rw w.numbers_are at within) in
-          (omega (arith, w.few, length_streams l k.size), length_places l k.size, rw w.numbers_are w.room)
+    module _ (q : inside n.fragments n.keys e ≡ true) where
+      pub within : e.fragment < n.fragments
+      within = own_fragment n.fragments n.keys e q
 
       pub judged : {r : Result (Unit {0}) Refusal} → r ≡ judge_inside (counters_of (drop (e.fragment * 8) (streams_of l))) (mine e.fragment (items n.held (places_of l))) n.held e → EntryJudged l e r
       unfolding judge_entry judge_inside judge_due
       judged d a v =
           let w = known k a v in
-          let m = rw w.numbers_are at within in
+          let m = rw w.numbers_are at q in
           let i = own_fragment a.fragments a.keys e m in
           d ∙ rw (w.numbers_are, w.streams.counters e.fragment i, w.places.held e.fragment i, fit, m)

@@ -2,8 +2,9 @@
 use native.Mathlib.Omega.{arith}
 use mathlib.Core.Path.{◌∙◌}
 use borrow.Author.Rules.{rules}
-use Rattle.closing.proofs.Judging.{next_epoch}
-use Rattle.closing.proofs.ClosedLot.{held_most, closable, close_done}
+use Rattle.closing.proofs.Judging.{stream_bytes, next_epoch}
+use Rattle.lot.proofs.Looked.{held_most}
+use Rattle.closing.proofs.ClosedLot.{closable, close_done}
 use Rattle.closing.proofs.close_held.Goals as goal
 
 pub new-held-requires : goal.new-held-requires
@@ -13,14 +14,15 @@ new-held-requires c =
 
 pub install_in-applied-requires : goal.install_in-applied-requires
 install_in-applied-requires c =
+    let l = c.args.lot.now in
     let k = c.requires in
-    (k.looked.size, c.new-held.ensures.1 ∙ c.from.ensures, rw (c.new-held.ensures.0, c.snapshot-old.ensures) (closable c.args.lot.now k.looked (λ i. search rules) c.args.list.now k.room))
+    (k.looked.size, c.new-held.ensures.1 ∙ c.from.ensures, rw (c.new-held.ensures.0, c.snapshot-old.ensures) (closable l k.looked (next_epoch l k.looked (stream_bytes l (λ i. search rules))) c.args.list.now k.room))
 
 pub keep_in-left-requires : goal.keep_in-left-requires
 keep_in-left-requires c = c.install_in-applied.auto.lot ∙ c.requires.looked.size
 
 pub closed_numbers-requires : goal.closed_numbers-requires
-closed_numbers-requires c = next_epoch c.args.lot.now c.requires.looked (λ i. search rules)
+closed_numbers-requires c = let l = c.args.lot.now in next_epoch l c.requires.looked (stream_bytes l (λ i. search rules))
 
 pub returns : goal.returns
 returns c =

@@ -1,20 +1,20 @@
 -- `judge_marks` answers 12. Assumes nothing.
-use Rattle.closing.proofs.Judging.{limits, all_there, some_missing}
-use mathlib.Core.Path.{refl}
 use native.Mathlib.Omega.{arith}
+use Rattle.closing.proofs.Judging.{limits, all_there, some_missing}
 use Rattle.closing.proofs.judge_marks.Goals as goal
 
 pub missing_marks-m-requires : goal.missing_marks-m-requires
 missing_marks-m-requires c =
-    let s = c in
-    limits s.args.lot.now s.requires _ (λ i. omega (arith, c.type_inv.lot i)) refl
+    let l = c.args.lot in
+    let e = c.streams-streams.ensures in
+    rw e (limits l.bytes.now l.looked (λ i q. rw (← e) (omega (arith, c.type_inv.streams i))))
 
 pub returns-then-m-eq0 : goal.returns-then-m-eq0
 returns-then-m-eq0 c =
-    let s = c in
-    all_there s.args.lot.now s.requires _ refl c.missing_marks-m.ensures c.if-m-eq0.true
+    let l = c.args.lot in
+    all_there l.bytes.now l.looked (rw c.streams-streams.ensures at c.missing_marks-m.ensures) c.if-m-eq0.true
 
 pub returns : goal.returns
 returns c =
-    let s = c in
-    some_missing s.args.lot.now s.requires _ refl c.missing_marks-m.ensures c.if-m-eq0.false
+    let l = c.args.lot in
+    some_missing l.bytes.now l.looked (rw c.streams-streams.ensures at c.missing_marks-m.ensures) c.if-m-eq0.false

@@ -1,18 +1,15 @@
 -- `deliver_lot` delivers to the account that the lot holds, if it is the named one. Assumes nothing.
-use mathlib.Core.Path.{sym}
 use Rattle.std.proofs.lemmas.Result.{err_from_is_err_and}
-use Rattle.taking.proofs.Answers.{not_found, refused, done}
+use Rattle.taking.proofs.Answers.{refused, done}
 use Rattle.taking.proofs.deliver_lot.Goals as goal
-
-pub returns-in_err-account : goal.returns-in_err-account
-returns-in_err-account c =
-    let e = err_from_is_err_and c.from_residual.result c.from_residual.ensures.1 in
-    rw (e.1, e.2) (not_found c.args.lot.now c.args.bytes.now c.args.number (sym c.in_err-account.ensures))
 
 pub returns-in_err-judge_lot : goal.returns-in_err-judge_lot
 returns-in_err-judge_lot c =
     let e = err_from_is_err_and c.from_residual-in_err-judge_lot.result c.from_residual-in_err-judge_lot.ensures.1 in
-    rw (e.1, e.2) (refused c.args.lot.now c.args.bytes.now c.args.number (sym c.in_ok-account.ensures) c.in_err-judge_lot.ensures)
+    let f = c.in_ok-found.ensures in
+    rw (e.1, e.2) (refused c.args.lot.now c.args.bytes.now c.args.number f.1 (rw f.0 at c.in_err-judge_lot.ensures))
 
 pub returns : goal.returns
-returns c = done c.args.lot.now c.args.bytes.now c.args.number (sym c.in_ok-account.ensures) c.take_entry.new.lot c.in_ok-judge_lot.ensures c.take_entry.ensures
+returns c =
+    let f = c.in_ok-found.ensures in
+    done c.args.lot.now c.args.bytes.now c.args.number f.1 c.take_entry.new.lot (rw f.0 at c.in_ok-judge_lot.ensures) c.take_entry.ensures
