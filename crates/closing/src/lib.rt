@@ -43,8 +43,9 @@ pub fn judge_lot(lot: OpenLot, room: usize) -> Result<(), Refusal>
     judge_marks(lot)
 }
 
-// (A lot is a slice, as in `writes`, which has why.)
 // ---- the close
+
+// (A lot is a slice, as in `writes`, which has why.)
 
 // Installs and lists the pieces by the places as they stood, in the records of the lot.
 fn install_in(lot: &mut [u8], list: &mut [u32], held: Section<'_>, account: Account) -> Applied

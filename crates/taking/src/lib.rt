@@ -74,8 +74,9 @@ pub fn judge_lot(lot: OpenLot, bytes: &[u8]) -> Result<(), Refusal>
     judge_entry(lot, Entry::read(bytes))
 }
 
-// (A lot is a slice, as in `writes`, which has why.)
 // ---- writing
+
+// (A lot is a slice, as in `writes`, which has why.)
 
 // Steps the counters of stream i, and answers the epoch that was open there. `mark` is a Bool, as in `stepped` of the model.
 #[tactic(auto, using(crate::proofs::Writing::stream_stepped))]
