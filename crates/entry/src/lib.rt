@@ -12,15 +12,18 @@ ghost use Rattle.entry.specs.Sequence.{sequence_of};
 use model::{Entry, Refusal, Stage};
 
 // The fields of an entry but for bytes 10 and 11: a held entry passes this too.
+#[tactic(auto, unfolding(model::specs::Entry::fields_fit, model::specs::Lists::every))]
 pub fn fields_fit(kind: u8, transaction: u32, argument: u16, value: u32) -> bool
     ensures { result ≡ fields_fit kind transaction argument value }
 {
-    (Entry::PUT <= kind)
-        & (kind <= Entry::MARK)
-        & ((kind <= Entry::P) | (argument == 0))
-        & ((kind == Entry::PUT) | (value == 0))
-        & (1 <= transaction)
-        & ((kind != Entry::MARK) | (transaction <= Entry::LAST_MARK))
+    1 <= transaction
+        && match kind {
+            Entry::PUT => true,
+            Entry::DELETE | Entry::P => value == 0,
+            Entry::CC..=Entry::A => argument == 0 && value == 0,
+            Entry::MARK => argument == 0 && value == 0 && transaction <= Entry::LAST_MARK,
+            _ => false,
+        }
 }
 
 // Refusal 5.
@@ -35,10 +38,12 @@ pub fn fits(e: Entry) -> bool
 pub fn in_account(fragments: u8, keys: u16, kind: u8, fragment: u8, argument: u16) -> bool
     ensures { result ≡ in_account fragments keys kind fragment argument }
 {
-    (fragment < fragments)
-        & ((Entry::DELETE < kind) | (argument < keys))
-        & ((kind != Entry::P) | (argument < u16::from(fragments)))
-        & ((kind != Entry::P) | (argument != u16::from(fragment)))
+    fragment < fragments
+        && match kind {
+            0..=Entry::DELETE => argument < keys,
+            Entry::P => argument < u16::from(fragments) && argument != u16::from(fragment),
+            _ => true,
+        }
 }
 
 // Refusal 6.

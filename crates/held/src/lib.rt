@@ -37,8 +37,6 @@ impl<'a> Limits<'a> {
         }
     }
 
-    // Tests that turn on a kind are joined by `|` and `&`: with `||`, a branch for each, the damage test took 1.35 times as long.
-
     // The entry of a place keeps the limits by itself.
     #[tactic(auto, using(crate::proofs::Fields::entry_is))]
     fn entry_fits(self, place: Place) -> bool
@@ -66,7 +64,7 @@ impl<'a> Limits<'a> {
         ensures { result ≡ flag_fits self.entry.closed stage (held_at place) }
     {
         !place.flagged
-            | ((place.kind == Entry::P) & (place.epoch <= self.closed) & (stage == Stage::Unheard))
+            || (place.kind == Entry::P && place.epoch <= self.closed && stage == Stage::Unheard)
     }
 
     // The entry of a place comes in turn: the stage of its transaction takes it, and its epoch suits it.
@@ -77,12 +75,12 @@ impl<'a> Limits<'a> {
         1 <= place.epoch
             && place.epoch <= self.open_epoch(place.piece.fragment)
             && entry::takes(place.kind, stage)
-            && ((place.kind < Entry::CC) | (self.closed < place.epoch))
+            && (place.kind < Entry::CC || self.closed < place.epoch)
             && self.flag_fits(place, stage)
     }
 }
 
-// The bytes that place i does not use are zero, and its flag is 0 or 1. (With `&&` the damage test took 1.12 times as long.)
+// The bytes that place i does not use are zero, and its flag is 0 or 1. (`&`: with `&&`, a branch for each, the damage test took longer.)
 #[tactic(auto, using(crate::proofs::Fields::plain_is))]
 fn plain_place(held: Section, i: usize) -> bool
     requires { i < held.count }

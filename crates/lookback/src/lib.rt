@@ -157,7 +157,8 @@ impl<'a> Index<'a> {
         self.chained = i + 1;
     }
 
-    // Chains the next place, and answers the last one before it of its piece.
+    // Chains the next place, and answers the last one before it of its piece. Inlined, as `last_from` is.
+    #[inline(always)]
     pub fn add(&mut self) -> Option<u8>
         requires { self.old.chained < self.old.held.count }
         ensures { (self.new.held ≡ self.old.held) × (self.new.chained ≡ self.old.chained + 1) × (one_past result ≡ last_before self.old.held.bytes.now self.old.chained) }
@@ -177,7 +178,9 @@ impl<'a> Index<'a> {
         self.last_from(start, piece)
     }
 
-    // As `last_of`, along the chain of the bucket from its head; after 16 places of it, where many share the bucket, backwards.
+    // As `last_of`, along the chain of the bucket from its head; after 16 places of it, where many share the bucket, backwards. Inlined: as a
+    // call, with the index in memory, the damage test took 1.6 times as long.
+    #[inline(always)]
     #[tactic(auto, using(crate::proofs::Chains::walk_end))]
     fn last_from(&self, start: Option<u8>, piece: Piece) -> Option<u8>
         requires { Walk self.now.held.bytes.now piece.fragment piece.transaction self.now.chained (one_past start) }

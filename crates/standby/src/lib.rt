@@ -182,11 +182,11 @@ pub fn save_account(
 ) -> Result<u32, Refusal>
     ensures { AccountSaved memory.now lots lot account image.old image.new result }
 {
-    let found = lots::find(memory, lots, lot, account)?;
+    let lot = lots::find(memory, lots, lot, account)?;
     if image.len() < image::LONGEST {
         return Err(Refusal::TooShort);
     }
-    Ok(image::save_lot(found.bytes, found.account, image))
+    Ok(image::save_lot(lot.bytes, lot.account, image))
 }
 
 // ---- load

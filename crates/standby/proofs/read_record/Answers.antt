@@ -1,6 +1,6 @@
 -- `read_record` answers the record, or why not. Assumes nothing.
 use Rattle.std.specs.Prelude.{Ok}
-use mathlib.Core.Path.{sym, ap, ◌∙◌}
+use mathlib.Core.Path.{ap, ◌∙◌}
 use Rattle.std.proofs.lemmas.Result.{err_from_is_err_and}
 use Rattle.standby.proofs.Calls.{read_refused, read_outside, read_limits, read_found}
 use Rattle.standby.proofs.read_record.Goals as goal
