@@ -202,6 +202,10 @@ known_decider {h} {decider = decider} {n = n} {e = e} {i = i} k l o q =
     let z : decider_at h n e i ≡ one_past o = sym (k.deciders i k.within w) ∙ ap one_past q in
     (z, omega (arith, decider_reaches h n e i k.within w), omega (arith, last_le (looked_at h e (item_at h i).stream (item_at h i).entry.transaction) n))
 
+pub lasts_is : (last : List (Option ℕ)) (h : List ℕ) (n i : ℕ) → Lasts last h n → i < n → last_before h i ≡ one_past (get_or last i None)
+unfolding Lasts
+lasts_is last h n i l u = sym (l i u)
+
 pub lasts_low : (last : List (Option ℕ)) (h : List ℕ) (n i : ℕ) → Lasts last h n → i < n → one_past (get_or last i None) ≤ i
 unfolding Lasts
 lasts_low last h n i l u = omega (arith, l i u, last_le (own_of h n n i) i)

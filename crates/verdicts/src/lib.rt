@@ -68,6 +68,7 @@ impl<'a> Closing<'a> {
     }
 
     // A stream has the transaction's CC, in an epoch up to this one.
+    #[tactic(auto, using(lookback::proofs::Chains::last_le), unfolding(crate::specs::Verdicts::decides))]
     fn decides(&self, piece: Piece) -> bool
         ensures { result ≡ decides self.now.index.held.bytes.now self.now.index.held.count self.now.epoch piece.fragment piece.transaction }
     {
@@ -90,7 +91,7 @@ impl<'a> Closing<'a> {
     }
 
     // The verdict that place i decides.
-    #[tactic(auto, unfolding(crate::specs::Verdicts::decided_by))]
+    #[tactic(auto, using(crate::proofs::Backwards::lasts_low, crate::proofs::Backwards::lasts_is), unfolding(crate::specs::Verdicts::decided_by))]
     fn decided_by(&self, i: usize) -> Verdict
         requires { i < self.now.index.held.count }
         ensures { result ≡ verdict_of (decided_by (decides self.now.index.held.bytes.now self.now.index.held.count self.now.epoch) self.now.index.held.bytes.now i) }
