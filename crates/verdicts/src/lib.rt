@@ -47,7 +47,7 @@ impl<'a> Closing<'a> {
         Some(self.index.held.place(i))
     }
 
-    // The entry there is flagged.
+    // The entry at the place that looking back answers is flagged.
     #[tactic(auto, unfolding(crate::specs::Verdicts::flagged_at))]
     fn flagged_at(&self, last: Option<u8>) -> bool
         requires { one_past last ≤ self.now.index.held.count }
@@ -56,7 +56,8 @@ impl<'a> Closing<'a> {
         self.place_at(last).is_some_and(|place| place.flagged)
     }
 
-    // The entry there is a CC of an epoch up to this one.
+    // The entry at the place that looking back answers is a CC of an epoch up to this one.
+    // (`epoch` is read first: of what a closure that captures `self` answers, nothing is known.)
     #[tactic(auto, unfolding(crate::specs::Verdicts::commits_at))]
     fn commits_at(&self, last: Option<u8>) -> bool
         requires { one_past last ≤ self.now.index.held.count }
