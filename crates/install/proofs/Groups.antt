@@ -4,9 +4,12 @@ use mathlib.Core.Path.{◌≡◌, refl}
 use Rattle.std.specs.Prelude.{Option}
 use Rattle.verdicts.specs.declared.Verdict.{Verdict}
 use Rattle.install.specs.declared.Sort.{Sort}
+use mathlib.Core.Bool.{true}
 use mathlib.Core.List.{List, [], append-nil}
 use native.Mathlib.Omega.{arith}
 use native.Mathlib.Decide.{ℕ_discrete, dec_lt}
+use borrow.Author.Tests.{eq-eqb}
+use lib.Dec.{eqb}
 use Rattle.model.specs.Section.{item_at}
 use Rattle.verdicts.specs.Orderly.{Orderly}
 use Rattle.verdicts.proofs.ByLast.{later}
@@ -20,21 +23,8 @@ below_none h n = record { low = omega arith; these = λ i l. absurd (omega arith
 module _ {h : List ℕ} {n s a : ℕ} (w : StreamsBelow h n s a) where
   -- ---- going on from a over the places of stream s
 
-  pub end_start : (i : ℕ) → i < a → (item_at h i).stream < s + 1
-  end_start i l = omega (arith, w.these i l)
-
-  pub end_more : (m : ℕ) → (item_at h m).stream ≡ s → ((i : ℕ) → i < m → (item_at h i).stream < s + 1) → (i : ℕ) → i < m + 1 → (item_at h i).stream < s + 1
-  end_more m e f i l = go (ℕ_discrete i m)
-    where
-      go : Dec (i ≡ m) → (item_at h i).stream < s + 1
-      go (yes z) = rw z (omega (arith, e))
-      go (no z) = f i (omega arith)
-
   pub end_here : Orderly h n → (m : ℕ) → a ≤ m → m < n → ((item_at h m).stream ≡ s → ⊥) → ((i : ℕ) → i < m → (item_at h i).stream < s + 1) → StreamsBelow h n (s + 1) m
   end_here o m l u d f = record { low = omega arith; these = f; rest = λ i p q. let z : s < (item_at h m).stream = omega (arith, w.rest m l u, d) in omega (arith, (later h n o m i p q).0) }
-
-  pub end_last : (m : ℕ) → m ≡ n → ((i : ℕ) → i < m → (item_at h i).stream < s + 1) → StreamsBelow h n (s + 1) m
-  end_last m e f = record { low = omega arith; these = f; rest = λ i p q. absurd (omega arith) }
 
   -- ---- from a to b
 
@@ -45,6 +35,9 @@ module _ {h : List ℕ} {n s a : ℕ} (w : StreamsBelow h n s a) where
         go : Dec (b < a) → a ≤ b
         go (yes l) = absurd (omega (arith, w.these b l, w.low, v.rest b (omega arith) (omega (arith, w.low))))
         go (no l) = omega arith
+
+    pub piece_here : (i : ℕ) → a ≤ i → i < b → eqb (item_at h i).stream s ≡ true
+    piece_here i l u = eq-eqb (item_at h i).stream s (let low = w.rest i l (omega (arith, v.low)) in let high = v.these i u in omega arith)
 
     module _ (verdicts : List (Option Verdict)) (sort : Sort) where
       none_at : (i : ℕ) → ((item_at h i).stream ≡ s → ⊥) → piece_at verdicts h s sort i ≡ []

@@ -223,6 +223,7 @@ impl<'s, 'a, 'h> Stream<'s, 'a, 'h> {
     ghost use Rattle.install.specs.Stream.{piece_in, sort_in, pieces_in, Room, Same, Installs};
 
     // Place i of the stream is a piece of this sort.
+    #[tactic(auto, using(crate::proofs::Groups::piece_here), unfolding(crate::specs::Pieces::is_piece))]
     fn is_piece(&self, sort: Sort, i: usize) -> bool
         requires { (self.now.start ≤ i) × (i < self.now.end) }
         ensures { result ≡ is_piece self.now.snapshot.now.verdicts.now self.now.snapshot.now.held.bytes.now self.now.fragment sort i }

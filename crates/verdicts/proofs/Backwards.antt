@@ -190,6 +190,10 @@ module _ (h : List ℕ) (n e : ℕ) where
         let z : suc a - 1 ≡ a = omega arith in
         rw z (found_more answers a room (omega arith) f before x (rw z at eb) (rw z at ex))
 
+pub lasts_is : (last : List (Option ℕ)) (h : List ℕ) (n i : ℕ) → Lasts last h n → i < n → last_before h i ≡ one_past (get_or last i None)
+unfolding Lasts
+lasts_is last h n i l u = sym (l i u)
+
 pub lasts_low : (last : List (Option ℕ)) (h : List ℕ) (n i : ℕ) → Lasts last h n → i < n → one_past (get_or last i None) ≤ i
 unfolding Lasts
 lasts_low last h n i l u = omega (arith, l i u, last_le (own_of h n n i) i)

@@ -44,7 +44,7 @@ impl<'a> Closing<'a> {
         Some(self.linked.index.held.place(i))
     }
 
-    // The entry there is flagged.
+    // The entry at the place that looking back answers is flagged.
     #[tactic(auto, unfolding(crate::specs::Verdicts::flagged_at))]
     fn flagged_at(&self, last: Option<u8>) -> bool
         requires { one_past last ≤ self.now.linked.now.index.held.count }
@@ -53,7 +53,8 @@ impl<'a> Closing<'a> {
         self.place_at(last).is_some_and(|place| place.flagged)
     }
 
-    // The entry there is a CC of an epoch up to this one.
+    // The entry at the place that looking back answers is a CC of an epoch up to this one.
+    // (`epoch` is read first: of what a closure that captures `self` answers, nothing is known.)
     #[tactic(auto, unfolding(crate::specs::Verdicts::commits_at))]
     fn commits_at(&self, last: Option<u8>) -> bool
         requires { one_past last ≤ self.now.linked.now.index.held.count }
@@ -65,6 +66,7 @@ impl<'a> Closing<'a> {
     }
 
     // A stream has the transaction's CC, in an epoch up to this one.
+    #[tactic(auto, using(lookback::proofs::Chains::last_le), unfolding(crate::specs::Verdicts::decides))]
     fn decides(&self, piece: Piece) -> bool
         ensures { result ≡ decides self.now.linked.now.index.held.bytes.now self.now.linked.now.index.held.count self.now.epoch piece.fragment piece.transaction }
     {
@@ -87,7 +89,7 @@ impl<'a> Closing<'a> {
     }
 
     // The verdict that place i decides.
-    #[tactic(auto, unfolding(crate::specs::Verdicts::decided_by))]
+    #[tactic(auto, using(crate::proofs::Backwards::lasts_low, crate::proofs::Backwards::lasts_is), unfolding(crate::specs::Verdicts::decided_by))]
     fn decided_by(&self, i: usize) -> Verdict
         requires { i < self.now.linked.now.index.held.count }
         ensures { result ≡ verdict_of (decided_by (decides self.now.linked.now.index.held.bytes.now self.now.linked.now.index.held.count self.now.epoch) self.now.linked.now.index.held.bytes.now i) }
