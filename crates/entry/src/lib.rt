@@ -11,7 +11,8 @@ ghost use Rattle.entry.specs.Sequence.{sequence_of};
 
 use model::{Entry, Refusal, Stage};
 
-// The fields of an entry but for bytes 10 and 11: a held entry passes this too.
+// The fields of an entry but for bytes 10 and 11. An entry that is offered and one that is held pass this and `in_account`, so they take
+// the fields, as the model's definitions do.
 #[tactic(auto, unfolding(model::specs::Entry::fields_fit, model::specs::Lists::every))]
 pub fn fields_fit(kind: u8, transaction: u32, argument: u16, value: u32) -> bool
     ensures { result ≡ fields_fit kind transaction argument value }
@@ -26,14 +27,16 @@ pub fn fields_fit(kind: u8, transaction: u32, argument: u16, value: u32) -> bool
         }
 }
 
-// Refusal 5.
+// Refusal 5 is given where this fails.
+#[tactic(auto, unfolding(model::specs::Entry::fits))]
 pub fn fits(e: Entry) -> bool
     ensures { result ≡ fits e }
 {
-    (e.spare == 0) & fields_fit(e.kind, e.transaction, e.argument, e.value)
+    e.spare == 0 && fields_fit(e.kind, e.transaction, e.argument, e.value)
 }
 
-// The fragment, the key and the coordinator of an entry in an account.
+// The fragment, the key and the coordinator of an entry in an account. (0, which is no kind, goes along with the writes here and below: the
+// model's tests are by `≤`.)
 #[tactic(auto, unfolding(model::specs::Entry::in_account, model::specs::Lists::every))]
 pub fn in_account(fragments: u8, keys: u16, kind: u8, fragment: u8, argument: u16) -> bool
     ensures { result ≡ in_account fragments keys kind fragment argument }
@@ -46,7 +49,7 @@ pub fn in_account(fragments: u8, keys: u16, kind: u8, fragment: u8, argument: u1
         }
 }
 
-// Refusal 6.
+// Refusal 6 is given where this fails.
 pub fn inside(e: Entry, fragments: u8, keys: u16) -> bool
     ensures { result ≡ inside fragments keys e }
 {

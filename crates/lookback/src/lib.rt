@@ -18,6 +18,16 @@ pub struct Piece {
     pub transaction: u32,
 }
 
+impl Piece {
+    #[tactic(auto, unfolding(crate::specs::Last::bucket_of))]
+    pub fn bucket(self) -> usize
+        ensures { (result ≡ bucket_of self.fragment self.transaction) × (result < 256) }
+    {
+        let number = u64::from(self.transaction) * 2654435761 / 16777216;
+        ((number + u64::from(self.fragment)) % 256) as usize
+    }
+}
+
 // A held entry, as its place has it. `argument` is the key of a put or a delete, and the coordinator of a P.
 #[derive(Clone, Copy, Debug, PartialEq, Eq)]
 pub struct Place {
@@ -46,7 +56,7 @@ impl<'a> Section<'a> {
         Section { bytes, count }
     }
 
-    // Place i.
+    // Place i. (Its number is a plain number: that it is below the count is proved where it is used.)
     #[tactic(auto, using(crate::proofs::Places::kind_is, crate::proofs::Places::stream_is, crate::proofs::Places::transaction_is, crate::proofs::Places::argument_is, crate::proofs::Places::flagged_is, crate::proofs::Places::value_is, crate::proofs::Places::epoch_is))]
     pub fn place(self, i: usize) -> Place
         requires { i < self.count }
@@ -77,7 +87,8 @@ impl<'a> Section<'a> {
 
     // ---- the last place of a transaction
 
-    // Among the places before `end`, the last of a piece: looked for backwards.
+    // Among the places before `end`, the last of a piece: looked for backwards. (`as u8` keeps the number of a place, here and below, and a
+    // bucket's: `try_from` would have an `Err` that can't be.)
     #[tactic(auto, using(crate::proofs::Chains::last_turn), unfolding(crate::specs::Last::last_with))]
     pub fn last_of(self, piece: Piece, end: usize) -> Option<u8>
         requires { end ≤ self.count }
@@ -110,15 +121,6 @@ impl<'a> Section<'a> {
     {
         self.stage_at(self.last_of(piece, self.count))
     }
-}
-
-// The bucket of a piece.
-#[tactic(auto, unfolding(crate::specs::Last::bucket_of))]
-pub fn bucket(piece: Piece) -> usize
-    ensures { (result ≡ bucket_of piece.fragment piece.transaction) × (result < 256) }
-{
-    ((u64::from(piece.transaction) * 2654435761 / 16777216 + u64::from(piece.fragment))
-        % 256) as usize
 }
 
 // Places chained by their buckets, in their order: the last place of each bucket, and for each place the one before it in
@@ -164,7 +166,7 @@ impl<'a> Index<'a> {
         ensures { (self.new.held ≡ self.old.held) × (self.new.chained ≡ self.old.chained + 1) × (one_past result ≡ last_before self.old.held.bytes.now self.old.chained) }
     {
         let piece = self.held.place(self.chained).piece;
-        let b = bucket(piece);
+        let b = piece.bucket();
         let last = self.last_from(self.head[b], piece);
         self.chain(b);
         last
@@ -174,7 +176,7 @@ impl<'a> Index<'a> {
     pub fn last_of(&self, piece: Piece) -> Option<u8>
         ensures { one_past result ≡ last_with (is_of self.now.held.bytes.now piece.fragment piece.transaction) self.now.chained }
     {
-        let start = self.head[bucket(piece)];
+        let start = self.head[piece.bucket()];
         self.last_from(start, piece)
     }
 

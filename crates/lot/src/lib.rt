@@ -89,7 +89,7 @@ impl Account {
     }
 }
 
-// Refusal 15.
+// Refusal 15 is given where this fails.
 #[tactic(auto, unfolding(model::specs::Account::account_fits, model::specs::Lists::every))]
 pub fn account_fits(number: u32, fragments: u32, keys: u32) -> bool
     ensures { result ≡ account_fits number fragments keys }
@@ -214,7 +214,8 @@ fn stream_fits(streams: &[u8], i: usize, closed: u32) -> bool
     (wire::get::<u16>(streams, i * 8 + 2) == 0) & (closed < wire::get::<u32>(streams, i * 8 + 4))
 }
 
-// The first n streams, with which what is lent begins. (`records_fit` of `judging` has the same one line, of another test.)
+// The first n streams. (A lot has eight whatever its account has, so what is lent goes on behind them: fixed memory. `records_fit` of `judging`
+// has the same one line, of another test.)
 pub fn streams_fit(streams: &[u8], n: usize, closed: u32) -> bool
     requires { n * 8 ≤ length streams.now }
     ensures { result ≡ all_below (stream_fits closed streams.now) n }
@@ -234,7 +235,7 @@ fn fits(head: &[u8], streams: &[u8], places: &[u8]) -> bool
     let a = Account::read(head);
     let held = Section::new(places, usize::from(a.held));
     streams_fit(streams, usize::from(a.fragments), a.closed)
-        & held::section_fits(a.limits(streams), held)
+        && held::section_fits(a.limits(streams), held)
 }
 
 // What a lot is, and of an open one the account's numbers.
@@ -286,6 +287,15 @@ impl<'a> OpenLot<'a> {
     {
         Section::new(&self.bytes[PLACES], usize::from(self.account.held))
     }
+
+    // The value of the record of fragment i and key k, or none where it is absent.
+    #[tactic(auto, using(crate::proofs::Lengths::records_part))]
+    pub fn record(self, i: usize, k: usize) -> Option<u32>
+        requires { (i < 8) × (k < 128) }
+        ensures { result ≡ found_of (record_at (records_of self.entry.bytes.now) i k) }
+    {
+        read_record(&self.bytes[RECORDS], i, k)
+    }
 }
 
 // What a call that names an account finds in a lot: the lot with the numbers of its account, or 2 or 3.
@@ -301,13 +311,4 @@ pub fn find(lot: &[u8], number: u32) -> Result<OpenLot<'_>, Refusal>
         }),
         _ => Err(Refusal::NotThisAccount),
     }
-}
-
-// The record of fragment i and key k, in a lot.
-#[tactic(auto, using(crate::proofs::Lengths::records_part))]
-pub fn record_of(lot: &[u8], i: usize, k: usize) -> Option<u32>
-    requires { (length lot.now ≡ SIZE) × (i < 8) × (k < 128) }
-    ensures { result ≡ found_of (record_at (records_of lot.now) i k) }
-{
-    read_record(&lot[RECORDS], i, k)
 }

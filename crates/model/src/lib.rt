@@ -48,7 +48,7 @@ impl Entry {
 
     pub const LAST_MARK: u32 = 4294967294;
 
-    // The fields of 16 bytes.
+    // The fields of 16 bytes. (A slice: an entry that is offered may be of any length, which refusal 4 judges.)
     #[tactic(auto, unfolding(crate::specs::Entry::entry_of))]
     pub fn read(bytes: &[u8]) -> Entry
         requires { LENGTH ≤ length bytes.now }

@@ -9,7 +9,8 @@ ghost use Rattle.places.specs.Places.{end_of, EntryHeld};
 
 // The section is lent to be written, as bytes and a count: `lookback::Section`, which has both, lends it to be read.
 
-// One past the last of n places whose stream is not above the fragment, and 0 if there is none.
+// One past the last of n places whose stream is not above the fragment, and 0 if there is none. (A search by halves would ask that they are in
+// order, which this one needn't.)
 pub fn end_of(held: &[u8], n: usize, fragment: u8) -> usize
     requires { n * 20 ≤ length held.now }
     ensures { (result ≤ n) × (result ≡ end_of held.now n fragment) }
@@ -23,8 +24,8 @@ pub fn end_of(held: &[u8], n: usize, fragment: u8) -> usize
 }
 
 // Puts the 20 bytes of a place in at start, and moves what stood from there up to end on by one place.
-pub fn insert(held: &mut [u8], start: usize, end: usize, place: &[u8])
-    requires { (start ≤ end) × (end + 20 ≤ length held.old) × (length place.now ≡ 20) }
+pub fn insert(held: &mut [u8], start: usize, end: usize, place: &[u8; 20])
+    requires { (start ≤ end) × (end + 20 ≤ length held.old) }
     ensures { held.new ≡ inserted held.old start end place.now }
 {
     let next = start + 20;

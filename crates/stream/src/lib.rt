@@ -1,6 +1,5 @@
 // One stream's two counters, and what a taken entry makes of them: the next number steps, and a mark raises the open epoch.
-// By value first; then where the caller holds them; then over plain numbers, for callers that hold no counters: docs/DECISIONS.md,
-// "Forms", has these three.
+// By value first; then where the caller holds them; then over plain numbers: docs/DECISIONS.md, "Forms", has these three.
 // It stands on `model`, whose `stepped` is the contract of all three.
 #![tactic(auto)]
 

@@ -1,5 +1,5 @@
 // Delivering one entry to one lot: one look at the lot, then the judgement, which only reads, then the write.
-// It stands on `lot` and `writes`, on `places` and `lookback` for the held entries, on `entry` and on `stream`.
+// It stands on `model`, on `lot` and `writes`, on `places` and `lookback` for the held entries, on `entry` and on `stream`.
 #![tactic(auto)]
 
 ghost use Rattle.std.specs.Prelude.{◌≡◌, true, ◌*◌, ◌<◌, ◌≤◌, length, drop};

@@ -70,6 +70,7 @@ impl Number for u32 {
     }
 
     fn write(self, s: &mut [u8], at: usize) {
+        // Byte by byte, as `with32` has it: by `copy_from_slice` the proof did not close.
         let [b0, b1, b2, b3] = self.to_le_bytes();
         s[at] = b0;
         s[at + 1] = b1;

@@ -1,5 +1,5 @@
 // Writing in a lot: a section is lent as a part of it, and the other sections stay. Then whole lots: freed, and with an account opened.
-// What the view is after each write stands in proofs/. It stands on `lot`.
+// What the view is after each write stands in proofs/. It stands on `wire`, `model` and `lot`.
 #![tactic(auto)]
 
 ghost use Rattle.std.specs.Prelude.{◌≡◌, true, ◌++◌, ◌<◌, ◌≤◌, length, drop};
@@ -17,7 +17,7 @@ use model::Counters;
 // A lot is lent as a slice, a part from the middle of the memory: `&mut [u8; SIZE]` would come from `first_chunk_mut`, with a `None`
 // that can't be. A function for each section says what of the lot changes; one that takes a closure would say it by `F.post`.
 
-// ---- each function here lends one section
+// ---- each function here lends one section (fragment and key are plain numbers, as in `lot`, which has why)
 
 #[tactic(auto, using(crate::proofs::Parts::head_lent))]
 pub fn set_head(lot: &mut [u8], account: Account)
