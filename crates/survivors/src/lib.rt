@@ -1,5 +1,5 @@
 // The held section written anew when an epoch is closed: what survives of a snapshot of it, each place moved at most once.
-// It stands on `verdicts`, which say what becomes of each place, on `lookback` for the snapshot, and on the words of `places`.
+// It stands on `model`, on `verdicts`, which say what becomes of each place, on `lookback` for the snapshot, and on the words of `places`.
 #![tactic(auto)]
 
 ghost use Rattle.std.specs.Prelude.{◌≡◌, ◌+◌, ◌*◌, ◌≤◌, ◌<◌, length, set};

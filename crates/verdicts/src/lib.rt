@@ -34,7 +34,7 @@ impl<'a> Closing<'a> {
 
     // ---- what the last place of a transaction decides
 
-    // The place that looking back answers.
+    // The place that looking back answers. (That it is below the count is proved where it is asked for, here and in the two after it.)
     #[tactic(auto, unfolding(crate::specs::Verdicts::place_at))]
     fn place_at(&self, last: Option<u8>) -> Option<Place>
         requires { one_past last ≤ self.now.linked.now.index.held.count }
@@ -74,7 +74,7 @@ impl<'a> Closing<'a> {
     }
 
     // A place is of a P that is to be flagged: it is not flagged yet, and its coordinator's stream has the CC.
-    // (`as u8` keeps the number here and below: `u8::try_from` would have an `Err` that can't be.)
+    // (`as u8` keeps the number: `u8::try_from` would have an `Err` that can't be.)
     #[tactic(auto, unfolding(crate::specs::Verdicts::to_flag))]
     fn to_flag(&self, place: Place) -> bool
         requires { place.kind ≡ P → place.argument < 8 }
