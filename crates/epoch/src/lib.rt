@@ -86,7 +86,7 @@ pub fn install_pieces(
 {
     let linked = Linked::new(held);
     let verdicts = verdicts::verdicts(&linked, closed + 1);
-    let pieces = Snapshot::new(held, &linked.last, &verdicts).install_all(records, list, fragments);
+    let pieces = Snapshot::new(&linked, &verdicts).install_all(records, list, fragments);
     Applied {
         pieces: pieces as u32,
         verdicts,

@@ -17,7 +17,7 @@ install-requires c =
     (record {
       size = l.invariant.2.size ∙ c.requires.records;
       long = omega (arith, c.requires.list, l.invariant.1);
-      few = omega (arith, c.requires.few, l.invariant.2.counted, count_most s.verdicts.now s.held.bytes.now s.held.count l.fragment c.args.fragments (omega arith));
+      few = omega (arith, c.requires.few, l.invariant.2.counted, count_most s.verdicts.now s.linked.now.index.held.bytes.now s.linked.now.index.held.count l.fragment c.args.fragments (omega arith));
     })
 
 pub loop-fragment-preserved : goal.loop-fragment-preserved
