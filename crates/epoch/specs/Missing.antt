@@ -11,8 +11,4 @@ missing_in s c i = leb (counters_of (drop (i * 8) s)).epoch (suc c)
 
 -- r is an Ok where none of f streams is missing, else refusal 12 with the byte, bit i for stream i, and how many they are
 abbrev pub MissingMarks : List ℕ → ℕ → ℕ → Result (Unit {0}) Refusal → Type 0
-MissingMarks s c f r =
-    r ≡ (
-    if eqb (count_below (missing_in s c) f) 0 then Ok tt
-    else Err (MarkMissing (bits_of (missing_in s c) f) (count_below (missing_in s c) f))
-    )
+MissingMarks s c f r = let p = missing_in s c in r ≡ (if eqb (count_below p f) 0 then Ok tt else Err (MarkMissing (bits_of p f) (count_below p f)))
