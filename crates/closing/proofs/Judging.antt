@@ -1,24 +1,23 @@
 -- The judgement of a close, from a look at the lot: what may be read, and a law for each answer. Assumes nothing.
-use Rattle.std.specs.Prelude.{Result, Ok, Err}
-use Prim.Native.Nat.{ℕ, zero, suc, ◌+◌, ◌*◌, ◌<◌, ◌≤◌}
+use Rattle.std.specs.Prelude.{Result, Err}
+use Prim.Native.Nat.{ℕ, zero, suc, ◌+◌, ◌<◌, ◌≤◌}
 use mathlib.Core.Path.{◌≡◌, refl, sym, ap, ◌∙◌}
 use mathlib.Core.List.{List}
 use native.Mathlib.Omega.{arith}
-use lib.ListN.{length, get_or, drop}
+use lib.ListN.{get_or, drop}
 use lib.Seq.{get_or-take, get_or-drop}
-use borrow.Author.Tests.{leb-true, eq-eqb, ne_eqb, lt-ltb, le-ltb}
+use borrow.Author.Tests.{leb-true, lt-ltb, le-ltb}
 use Rattle.wire.specs.Numbers.{number32}
 use Rattle.model.specs.Lists.{one, count_below, bits_of}
 use Rattle.model.specs.Account.{Account, account_fits}
 use Rattle.model.specs.Closing.{missing, judge_close, judge_room}
-use Rattle.model.specs.declared.Refusal.TheVariants.{TooShort, MarkMissing}
+use Rattle.model.specs.declared.Refusal.TheVariants.{TooShort}
 use Rattle.model.proofs.Tests.{nth}
 use Rattle.model.proofs.Sums.{sum_same}
 use Rattle.model.specs.declared.Refusal.{Refusal}
 use Rattle.lot.specs.Layout.{streams_of}
 use Rattle.lot.specs.View.{holds, view_lot}
 use Rattle.lot.specs.declared.Account as numbers
-use Rattle.lot.proofs.Lengths.{length_streams}
 use Rattle.lot.proofs.Views.{holds_well_formed}
 use Rattle.lot.specs.Look.{Looked}
 use Rattle.lot.proofs.Looked.{looked_held, known}
@@ -56,37 +55,31 @@ module _ (l : List ℕ) {n : numbers.Account} (k : Looked l n) where
 
   -- ---- 12
 
-  pub limits : ((i : ℕ) → i < 64 → get_or (streams_of l) i 0 < 256) → (n.fragments ≤ 8) × (n.fragments * 8 ≤ length (streams_of l)) × (n.closed < 4294967295)
-  limits b =
+  pub few_fragments : n.fragments ≤ 8
+  few_fragments =
       let h = looked_held l k.seen in
       let w = known k h.account h.holds_it in
-      let few : n.fragments ≤ 8 = rw w.numbers_are w.few in
-      (few, omega (arith, length_streams l k.size), next_epoch b)
+      rw w.numbers_are w.few
 
-  module _ {byte ones : ℕ} (m : MissingMarks (streams_of l) n.closed n.fragments byte ones) where
-    module _ (a : Account) (v : view_lot l ≡ holds a) where
-      each : (i : ℕ) → i < a.fragments → missing_in (streams_of l) n.closed i ≡ missing a i
-      unfolding missing_in missing
-      each i q = let w = known k a v in rw (w.numbers_are, w.streams.counters i q)
+  module _ (a : Account) (v : view_lot l ≡ holds a) where
+    each : (i : ℕ) → i < a.fragments → missing_in (streams_of l) n.closed i ≡ missing a i
+    unfolding missing_in missing
+    each i q = let w = known k a v in rw (w.numbers_are, w.streams.counters i q)
 
-      bits_same : (p q : ℕ → _) (f : ℕ) → ((i : ℕ) → i < f → p i ≡ q i) → bits_of p f ≡ bits_of q f
-      unfolding bits_of
-      bits_same p q zero w = refl
-      bits_same p q (suc f) w = rw (w f (omega arith), bits_same p q f (λ i h. w i (omega arith)))
+    bits_same : (p q : ℕ → _) (f : ℕ) → ((i : ℕ) → i < f → p i ≡ q i) → bits_of p f ≡ bits_of q f
+    unfolding bits_of
+    bits_same p q zero w = refl
+    bits_same p q (suc f) w = rw (w f (omega arith), bits_same p q f (λ i h. w i (omega arith)))
 
-      fragments_are : n.fragments ≡ a.fragments
-      fragments_are = ap (λ x. x.fragments) (known k a v).numbers_are
+    fragments_are : n.fragments ≡ a.fragments
+    fragments_are = ap (λ x. x.fragments) (known k a v).numbers_are
 
-      many_are : ones ≡ count_below (missing a) a.fragments
-      many_are = m.many ∙ rw fragments_are (sum_same (λ i. one (missing a i)) (λ i. one (missing_in (streams_of l) n.closed i)) a.fragments (λ i q. ap one (each i q)))
+    bits_are : bits_of (missing_in (streams_of l) n.closed) a.fragments ≡ bits_of (missing a) a.fragments
+    bits_are = bits_same (missing_in (streams_of l) n.closed) (missing a) a.fragments each
 
-      bits_are : byte ≡ bits_of (missing a) a.fragments
-      bits_are = m.bits ∙ rw fragments_are (bits_same (missing_in (streams_of l) n.closed) (missing a) a.fragments each)
+    many_are : count_below (missing_in (streams_of l) n.closed) a.fragments ≡ count_below (missing a) a.fragments
+    many_are = sum_same (λ i. one (missing a i)) (λ i. one (missing_in (streams_of l) n.closed i)) a.fragments (λ i q. ap one (each i q))
 
-    pub all_there : ones ≡ 0 → MarksJudged l (Ok tt)
-    unfolding judge_close
-    all_there z a v = rw (eq-eqb (count_below (missing a) a.fragments) 0 (sym (many_are a v) ∙ z))
-
-    pub some_missing : (ones ≡ 0 → ⊥) → MarksJudged l (Err (MarkMissing byte ones))
-    unfolding judge_close
-    some_missing z a v = rw (bits_are a v, many_are a v, ne_eqb (count_below (missing a) a.fragments) 0 (λ q. z (many_are a v ∙ q)))
+  pub marks_are : {r : Result (Unit {0}) Refusal} → MissingMarks (streams_of l) n.closed n.fragments r → MarksJudged l r
+  unfolding judge_close
+  marks_are m a v = m ∙ rw (fragments_are a v, bits_are a v, many_are a v)

@@ -1,6 +1,6 @@
 // Closing an epoch in one lot: one look at the lot, then the judgement, which only reads, then the close, section by section.
-// It stands on `lot` and `writes`, on `lookback` for the held section, on `epoch` and `verdicts` for what is installed, and on
-// `survivors` for what stays held.
+// It stands on `model`, on `lot` and `writes`, on `lookback` for the held section, on `epoch` and `verdicts` for what is installed, and
+// on `survivors` for what stays held.
 #![tactic(auto)]
 
 ghost use Rattle.std.specs.Prelude.{◌≡◌, ◌≤◌, ◌<◌, length};
@@ -21,15 +21,7 @@ pub const LEAST_LIST: usize = 512;
 fn judge_marks(lot: OpenLot) -> Result<(), Refusal>
     ensures { MarksJudged lot.entry.bytes.now result }
 {
-    let streams = lot.streams();
-    let m = epoch::missing_marks(streams, lot.account.fragments, lot.account.closed);
-    if m.ones == 0 {
-        return Ok(());
-    }
-    Err(Refusal::MarkMissing {
-        streams: m.streams,
-        how_many: m.ones,
-    })
+    epoch::missing_marks(lot.account.limits(lot.streams()))
 }
 
 // Refusals 16 and 12.

@@ -1,59 +1,54 @@
 // Closing an epoch over the sections of a lot: the marks that are missing, and the pieces installed.
-// It stands on `verdicts` and `install`, on `survivors` for what stays held, on `lookback` for the held section, and on `wire`.
+// It stands on `model`, on `held` for what limits a held section, on `lookback` for the section, and on `verdicts` and `install`. Its
+// clauses speak of records by `lot`, and `wire` and `survivors` serve its proofs alone: the latter to say what stays held.
 #![tactic(auto)]
 
-ghost use Rattle.std.specs.Prelude.{◌≡◌, ◌+◌, ◌*◌, ◌≤◌, ◌<◌, length};
+ghost use Rattle.std.specs.Prelude.{◌≡◌, ◌≤◌, ◌<◌, length};
 ghost use Rattle.std.specs.Int.Count.{ones};
 ghost use Rattle.model.specs.Lists.{bits_of};
 ghost use Rattle.epoch.specs.Missing.{missing_in, MissingMarks};
 ghost use Rattle.epoch.specs.Closed.{Closable, Installed};
 
+use held::Limits;
 use install::Snapshot;
 use lookback::{Linked, Section};
+use model::Refusal;
 use verdicts::Verdict;
 
-// (Each of these three asks that there is an epoch after the closed one: a number with that invariant would be proved where a look
-// at the lot makes it, as the fact is now.)
-
-// Stream i has not taken the mark of the epoch after the closed one.
-fn is_missing(streams: &[u8], closed: u32, i: u8) -> bool
-    requires { (i * 8 + 8 ≤ length streams.now) × (closed < 4294967295) }
-    ensures { result ≡ missing_in streams.now closed i }
+// Stream i has not taken the mark of the epoch after the closed one. (As u64, in which each u32 has a next one.)
+fn is_missing(limits: Limits<'_>, i: u8) -> bool
+    requires { i < limits.fragments }
+    ensures { result ≡ missing_in limits.entry.streams.now limits.entry.closed i }
 {
-    wire::get::<u32>(streams, usize::from(i) * 8 + 4) <= closed + 1
+    u64::from(limits.open_epoch(i)) <= u64::from(limits.closed) + 1
 }
 
 // The byte of missing streams, bit i for stream i.
-fn missing_byte(streams: &[u8], fragments: u8, closed: u32) -> u8
-    requires { (fragments ≤ 8) × (fragments * 8 ≤ length streams.now) × (closed < 4294967295) }
-    ensures { result ≡ bits_of (missing_in streams.now closed) fragments }
+fn missing_byte(limits: Limits<'_>) -> u8
+    requires { limits.fragments ≤ 8 }
+    ensures { result ≡ bits_of (missing_in limits.entry.streams.now limits.entry.closed) limits.entry.fragments }
 {
     let mut byte: u8 = 0;
-    for i in 0..fragments {
-        if is_missing(streams, closed, i) {
+    for i in 0..limits.fragments {
+        if is_missing(limits, i) {
             byte |= 1 << i;
         }
     }
     byte
 }
 
-#[derive(Clone, Copy, PartialEq, Eq, Debug)]
-pub struct Missing {
-    pub streams: u8,
-    pub ones: u8,
-}
-
-// The streams without the mark, as a byte, and how many: the ones of that byte. (`as` makes small what is proved small, here and in
-// `install_pieces`: `TryFrom` would have an `Err` that can't be.)
-pub fn missing_marks(streams: &[u8], fragments: u8, closed: u32) -> Missing
-    requires { (fragments ≤ 8) × (fragments * 8 ≤ length streams.now) × (closed < 4294967295) }
-    ensures { MissingMarks streams.now closed fragments result.streams result.ones }
+// Refusal 12 if streams are without the mark: which ones, as a byte, and how many, the ones of that byte. (`as` makes small what is proved
+// small, here and in `install_pieces`: `TryFrom` would have an `Err` that can't be.)
+pub fn missing_marks(limits: Limits<'_>) -> Result<(), Refusal>
+    requires { limits.fragments ≤ 8 }
+    ensures { MissingMarks limits.entry.streams.now limits.entry.closed limits.entry.fragments result }
 {
-    let byte = missing_byte(streams, fragments, closed);
-    Missing {
-        streams: byte,
-        ones: byte.count_ones() as u8,
+    let streams = missing_byte(limits);
+    let how_many = streams.count_ones() as u8;
+    if how_many == 0 {
+        return Ok(());
     }
+    Err(Refusal::MarkMissing { streams, how_many })
 }
 
 // A section as it stands.
@@ -86,7 +81,7 @@ pub fn install_pieces(
 {
     let linked = Linked::new(held);
     let verdicts = verdicts::verdicts(&linked, closed + 1);
-    let pieces = Snapshot::new(held, &linked.last, &verdicts).install_all(records, list, fragments);
+    let pieces = Snapshot::new(&linked, &verdicts).install_all(records, list, fragments);
     Applied {
         pieces: pieces as u32,
         verdicts,

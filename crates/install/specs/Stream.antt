@@ -7,14 +7,14 @@ use Rattle.install.specs.Pieces.{piece_at, pieces_till, pieces_of, Installed}
 
 -- of one sort, the piece at place i, and all of them
 abbrev pub piece_in : Stream → Sort → ℕ → List ℕ
-piece_in s sort i = piece_at s.snapshot.now.verdicts.now s.snapshot.now.held.bytes.now s.fragment sort i
+piece_in s sort i = piece_at s.snapshot.now.verdicts.now s.snapshot.now.linked.now.index.held.bytes.now s.fragment sort i
 
 abbrev pub sort_in : Stream → Sort → List ℕ
-sort_in s sort = pieces_till s.snapshot.now.verdicts.now s.snapshot.now.held.bytes.now s.fragment sort s.snapshot.now.held.count
+sort_in s sort = pieces_till s.snapshot.now.verdicts.now s.snapshot.now.linked.now.index.held.bytes.now s.fragment sort s.snapshot.now.linked.now.index.held.count
 
 -- of both sorts
 abbrev pub pieces_in : Stream → List ℕ
-pieces_in s = pieces_of s.snapshot.now.verdicts.now s.snapshot.now.held.bytes.now s.snapshot.now.held.count s.fragment
+pieces_in s = pieces_of s.snapshot.now.verdicts.now s.snapshot.now.linked.now.index.held.bytes.now s.snapshot.now.linked.now.index.held.count s.fragment
 
 -- there is room for these pieces
 pub record Room (is : List ℕ) (o : Output) : Type 0 where
@@ -28,4 +28,4 @@ pub record Same (o o' : Output) : Type 0 where
   pub list : o'.list.ghost_name ≡ o.list.ghost_name
 
 abbrev pub Installs : Stream → List ℕ → Output → Output → Type 0
-Installs s is o o' = Installed s.snapshot.now.held.bytes.now is s.fragment o.list.now o'.list.now o.records.now o'.records.now o.pieces o'.pieces
+Installs s is o o' = Installed s.snapshot.now.linked.now.index.held.bytes.now is s.fragment o.list.now o'.list.now o.records.now o'.records.now o.pieces o'.pieces

@@ -1,63 +1,55 @@
 // Installing the pieces of an epoch: each is listed, and its writes are applied to the records, in the order of docs/RULES.md.
-// It stands on `verdicts`, which says what is installed, on `lookback`, and on `lot` for the records.
+// It stands on `verdicts`, which says what is installed, on `lookback` for the held section, on `model` for the kinds of entries, and on
+// `lot` for the records.
 #![tactic(auto)]
 
 ghost use Rattle.std.specs.Prelude.{◌≡◌, ◌+◌, ◌*◌, ◌≤◌, ◌<◌, length, set};
 ghost use Rattle.model.specs.Section.{item_at};
-ghost use Rattle.lookback.specs.Last.{Lasts, Lasts-prop};
 ghost use Rattle.verdicts.specs.Orderly.{Orderly};
 ghost use Rattle.install.specs.Writes.{Changed, write_of, writes_before};
 ghost use Rattle.install.specs.Order.{Nexts, First, StreamsBelow, Nexts-prop};
 
-use lookback::{Piece, Section};
+use lookback::{Linked, Piece};
 use model::Entry;
 use verdicts::Verdict;
 
 // ---- what is installed
 
 // For each place the next one of its piece. (`as u8` keeps the number: `u8::try_from` would have an `Err` that can't be.)
-fn nexts(held: Section<'_>, last: &[Option<u8>; 256]) -> [Option<u8>; 256]
-    requires { Lasts last.now held.bytes.now held.count }
-    ensures { Nexts result held.entry.bytes.now held.entry.count }
+fn nexts(linked: &Linked<'_>) -> [Option<u8>; 256]
+    ensures { Nexts result linked.now.index.held.bytes.now linked.now.index.held.count }
 {
     let mut next = [None; 256];
-    for i in 0..held.count {
-        if let Some(before) = last[i] {
+    for i in 0..linked.index.held.count {
+        if let Some(before) = linked.last[i] {
             next[usize::from(before)] = Some(i as u8);
         }
     }
     next
 }
 
-// `last` and `verdicts` are lent by those who made them, so that no array of structs holds all three by place.
+// `linked` and `verdicts` are lent by those who made them, so that no array of structs holds last, next and verdict by place.
 
 // The places as they stood when the call began, with a verdict on each, and chained by transaction in both directions.
 #[derive(Clone, Copy)]
 pub struct Snapshot<'a, 'h> {
-    pub held: Section<'h>,
-    last: &'a [Option<u8>; 256],
+    pub linked: &'a Linked<'h>,
     next: [Option<u8>; 256],
     pub verdicts: &'a [Option<Verdict>; 256],
-    pub ghost orderly: { Orderly held.bytes.now held.count },
-    ghost lasts: { Lasts last.now held.bytes.now held.count } by { Lasts-prop last.now held.bytes.now held.count },
-    ghost nexts: { Nexts next held.bytes.now held.count } by { Nexts-prop next held.bytes.now held.count },
+    pub ghost orderly: { Orderly linked.now.index.held.bytes.now linked.now.index.held.count },
+    ghost nexts: { Nexts next linked.now.index.held.bytes.now linked.now.index.held.count } by { Nexts-prop next linked.now.index.held.bytes.now linked.now.index.held.count },
 }
 
 impl<'a, 'h> Snapshot<'a, 'h> {
     ghost use Rattle.install.specs.Pieces.{count_of, InstalledAll};
 
-    pub fn new(
-        held: Section<'h>,
-        last: &'a [Option<u8>; 256],
-        verdicts: &'a [Option<Verdict>; 256],
-    ) -> Snapshot<'a, 'h>
-        requires { Orderly held.bytes.now held.count × Lasts last.now held.bytes.now held.count }
-        ensures { (result.held ≡ held.entry) × (result.verdicts.now ≡ verdicts.now) }
+    pub fn new(linked: &'a Linked<'h>, verdicts: &'a [Option<Verdict>; 256]) -> Snapshot<'a, 'h>
+        requires { Orderly linked.now.index.held.bytes.now linked.now.index.held.count }
+        ensures { (result.linked.now ≡ linked.now) × (result.verdicts.now ≡ verdicts.now) }
     {
         Snapshot {
-            held,
-            last,
-            next: nexts(held, last),
+            linked,
+            next: nexts(linked),
             verdicts,
         }
     }
@@ -66,12 +58,12 @@ impl<'a, 'h> Snapshot<'a, 'h> {
 
     // The first place of place i's piece.
     fn first_of(&self, i: usize) -> usize
-        requires { i < self.now.held.count }
-        ensures { First self.now.held.bytes.now i result }
+        requires { i < self.now.linked.now.index.held.count }
+        ensures { First self.now.linked.now.index.held.bytes.now i result }
     {
         let mut first = i;
         // A walk along the chain: there is nothing to count.
-        while let Some(before) = self.last[first] {
+        while let Some(before) = self.linked.last[first] {
             first = usize::from(before);
         }
         first
@@ -79,10 +71,10 @@ impl<'a, 'h> Snapshot<'a, 'h> {
 
     // Applies the write of place i, if it is one.
     fn write_place(&self, records: &mut [u8], i: usize)
-        requires { (length records.old ≡ 5120) × (i < self.now.held.count) }
-        ensures { Changed records.old records.new (item_at self.now.held.bytes.now i).stream (write_of (item_at self.now.held.bytes.now i)) }
+        requires { (length records.old ≡ 5120) × (i < self.now.linked.now.index.held.count) }
+        ensures { Changed records.old records.new (item_at self.now.linked.now.index.held.bytes.now i).stream (write_of (item_at self.now.linked.now.index.held.bytes.now i)) }
     {
-        let place = self.held.place(i);
+        let place = self.linked.index.held.place(i);
         if Entry::DELETE < place.kind {
             return;
         }
@@ -97,8 +89,8 @@ impl<'a, 'h> Snapshot<'a, 'h> {
 
     // Applies the writes of place i's transaction that stand before it in its stream, in their order.
     fn write_transaction(&self, records: &mut [u8], i: usize)
-        requires { (length records.old ≡ 5120) × (i < self.now.held.count) }
-        ensures { Changed records.old records.new (item_at self.now.held.bytes.now i).stream (writes_before self.now.held.bytes.now i) }
+        requires { (length records.old ≡ 5120) × (i < self.now.linked.now.index.held.count) }
+        ensures { Changed records.old records.new (item_at self.now.linked.now.index.held.bytes.now i).stream (writes_before self.now.linked.now.index.held.bytes.now i) }
     {
         // A walk along the chain, which ends at place i: there is nothing to count.
         let mut at = self.first_of(i);
@@ -108,22 +100,23 @@ impl<'a, 'h> Snapshot<'a, 'h> {
         }
     }
 
-    // Where the places of a stream end, those of the streams before it being the first `start`.
+    // Where the places of a stream end, those of the streams before it being the first `start`. (Place by place: installing goes over
+    // them anyway, and they are bytes, no slice of places for `partition_point`.)
     fn stream_end(&self, fragment: u8, start: usize) -> usize
-        requires { StreamsBelow self.now.held.bytes.now self.now.held.count fragment start }
-        ensures { StreamsBelow self.now.held.bytes.now self.now.held.count (fragment + 1) result }
+        requires { StreamsBelow self.now.linked.now.index.held.bytes.now self.now.linked.now.index.held.count fragment start }
+        ensures { StreamsBelow self.now.linked.now.index.held.bytes.now self.now.linked.now.index.held.count (fragment + 1) result }
     {
-        for i in start..self.held.count {
-            if self.held.place(i).piece.fragment != fragment {
+        for i in start..self.linked.index.held.count {
+            if self.linked.index.held.place(i).piece.fragment != fragment {
                 return i;
             }
         }
-        self.held.count
+        self.linked.index.held.count
     }
 
     // The places of a stream, which begin at `start`.
     fn stream<'s>(&'s self, fragment: u8, start: usize) -> Stream<'s, 'a, 'h>
-        requires { StreamsBelow self.now.held.bytes.now self.now.held.count fragment start }
+        requires { StreamsBelow self.now.linked.now.index.held.bytes.now self.now.linked.now.index.held.count fragment start }
         ensures { (result.snapshot.now ≡ self.now) × (result.fragment ≡ fragment) }
     {
         Stream {
@@ -138,8 +131,8 @@ impl<'a, 'h> Snapshot<'a, 'h> {
     pub fn install_all(&self, records: &mut [u8], list: &mut [u32], fragments: u8) -> usize
         requires records { length records.old ≡ 5120 }
         requires list { 512 ≤ length list.old }
-        requires few { count_of self.now.verdicts.now self.now.held.bytes.now self.now.held.count fragments ≤ 256 }
-        ensures { InstalledAll self.now.verdicts.now self.now.held.bytes.now self.now.held.count fragments list.old list.new records.old records.new result }
+        requires few { count_of self.now.verdicts.now self.now.linked.now.index.held.bytes.now self.now.linked.now.index.held.count fragments ≤ 256 }
+        ensures { InstalledAll self.now.verdicts.now self.now.linked.now.index.held.bytes.now self.now.linked.now.index.held.count fragments list.old list.new records.old records.new result }
     {
         let mut output = Output {
             records,
@@ -185,7 +178,7 @@ impl<'o> Output<'o> {
 
 // ---- the pieces of a stream
 
-// A piece has a CC or CP that installs, or its P is flagged.
+// A piece has a CC or CP that installs, or its P is flagged. (An enum and no closure, since the clauses name it: `picks`.)
 #[derive(Clone, Copy, PartialEq, Eq, Debug)]
 enum Sort {
     Committed,
@@ -214,8 +207,8 @@ struct Stream<'s, 'a, 'h> {
     fragment: u8,
     start: usize,
     end: usize,
-    ghost begins: { StreamsBelow snapshot.now.held.bytes.now snapshot.now.held.count fragment start },
-    ghost ends: { StreamsBelow snapshot.now.held.bytes.now snapshot.now.held.count (fragment + 1) end },
+    ghost begins: { StreamsBelow snapshot.now.linked.now.index.held.bytes.now snapshot.now.linked.now.index.held.count fragment start },
+    ghost ends: { StreamsBelow snapshot.now.linked.now.index.held.bytes.now snapshot.now.linked.now.index.held.count (fragment + 1) end },
 }
 
 impl<'s, 'a, 'h> Stream<'s, 'a, 'h> {
@@ -226,9 +219,12 @@ impl<'s, 'a, 'h> Stream<'s, 'a, 'h> {
     #[tactic(auto, using(crate::proofs::Groups::piece_here), unfolding(crate::specs::Pieces::is_piece))]
     fn is_piece(&self, sort: Sort, i: usize) -> bool
         requires { (self.now.start ≤ i) × (i < self.now.end) }
-        ensures { result ≡ is_piece self.now.snapshot.now.verdicts.now self.now.snapshot.now.held.bytes.now self.now.fragment sort i }
+        ensures { result ≡ is_piece self.now.snapshot.now.verdicts.now self.now.snapshot.now.linked.now.index.held.bytes.now self.now.fragment sort i }
     {
-        sort.picks(self.snapshot.verdicts[i], self.snapshot.held.place(i).kind)
+        sort.picks(
+            self.snapshot.verdicts[i],
+            self.snapshot.linked.index.held.place(i).kind,
+        )
     }
 
     // Installs place i if it is a piece of this sort.
@@ -239,7 +235,7 @@ impl<'s, 'a, 'h> Stream<'s, 'a, 'h> {
         ensures installs { Installs self.now (piece_in self.now sort i) output.old output.new }
     {
         if self.is_piece(sort, i) {
-            output.list_piece(self.snapshot.held.place(i).piece);
+            output.list_piece(self.snapshot.linked.index.held.place(i).piece);
             self.snapshot.write_transaction(output.records, i);
         }
     }

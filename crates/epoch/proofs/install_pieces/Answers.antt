@@ -8,17 +8,17 @@ pub verdicts-verdicts-requires : goal.verdicts-verdicts-requires
 verdicts-verdicts-requires c = rw c.new-linked.ensures (in_order_law c.requires.fits)
 
 pub new-requires : goal.new-requires
-new-requires c = (in_order_law c.requires.fits, rw c.new-linked.ensures at c.new-linked.result.lasts)
+new-requires c = rw c.new-linked.ensures (in_order_law c.requires.fits)
 
 pub install_all-pieces-requires-clause-few : goal.install_all-pieces-requires-clause-few
-install_all-pieces-requires-clause-few c = rw (c.new.ensures.0, c.new.ensures.1) (few c.requires.fits c.verdicts-verdicts.result (omega arith))
+install_all-pieces-requires-clause-few c = rw (c.new.ensures.0, c.new-linked.ensures, c.new.ensures.1) (few c.requires.fits c.verdicts-verdicts.result (omega arith))
 
 pub overflow_cast-result : goal.overflow_cast-result
 overflow_cast-result c =
-    let k = rw (c.new.ensures.0, c.new.ensures.1) at c.install_all-pieces.ensures in
+    let k = rw (c.new.ensures.0, c.new-linked.ensures, c.new.ensures.1) at c.install_all-pieces.ensures in
     omega (arith, k.counted, few c.requires.fits c.verdicts-verdicts.result (omega arith))
 
 pub returns : goal.returns
 returns c =
     installed c.requires.fits c.verdicts-verdicts.result (rw (add-one c.args.closed, c.new-linked.ensures) at c.verdicts-verdicts.ensures) c.requires.most c.requires.long
-    (rw (c.new.ensures.0, c.new.ensures.1) at c.install_all-pieces.ensures)
+    (rw (c.new.ensures.0, c.new-linked.ensures, c.new.ensures.1) at c.install_all-pieces.ensures)

@@ -15,7 +15,7 @@ pub loop-i-preserved : goal.loop-i-preserved
 loop-i-preserved c =
     let l = c.loop-i in
     let a = c.args in
-    let p = missing_in a.streams.now a.closed in
+    let p = missing_in a.limits.streams.now a.limits.closed in
     elim c.if-is_missing.branch [
       | then-is_missing w ↦ w.byte-is ∙ bits_hit p l.i l.byte l.invariant (sym c.is_missing.ensures ∙ w.if-is_missing.true) (omega arith)
       | else-is_missing w ↦ w.byte-is ∙ bits_miss p l.i l.byte l.invariant (sym c.is_missing.ensures ∙ w.if-is_missing.false)

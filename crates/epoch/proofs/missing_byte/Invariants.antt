@@ -5,4 +5,4 @@ use Rattle.epoch.specs.Missing.{missing_in}
 use Rattle.epoch.proofs.missing_byte.Given as goal
 
 abbrev pub invariant-loop-i : goal.invariant-loop-i
-invariant-loop-i l = l.byte ≡ bits_of (missing_in l.streams l.closed) l.i
+invariant-loop-i l = l.byte ≡ bits_of (missing_in l.limits.streams.now l.limits.closed) l.i

@@ -14,8 +14,8 @@ pub loop-i-preserved : goal.loop-i-preserved
 unfolding Lasts
 loop-i-preserved c =
     let l = c.loop-i in
-    let h = c.args.held.bytes.now in
-    elim c.match-last-i.branch [
-      | in-Some w ↦ rw (w.next-is, w.from.ensures) (simp length-set l.invariant.0, nexts_more h l.next l.i w.in-Some.before l.invariant.0 (omega arith) l.invariant.1 (ap one_past (sym w.in-Some.is) ∙ c.requires l.i (omega arith)))
-      | in_default w ↦ rw w.next-is (l.invariant.0, nexts_same h l.next l.i l.invariant.1 (ap one_past (sym w.in_default.is) ∙ c.requires l.i (omega arith)))
+    let h = c.args.linked.now.index.held.bytes.now in
+    elim c.match-linked-i.branch [
+      | in-Some w ↦ rw (w.next-is, w.from.ensures) (simp length-set l.invariant.0, nexts_more h l.next l.i w.in-Some.before l.invariant.0 (omega arith) l.invariant.1 (ap one_past (sym w.in-Some.is) ∙ c.args.linked.now.lasts l.i (omega arith)))
+      | in_default w ↦ rw w.next-is (l.invariant.0, nexts_same h l.next l.i l.invariant.1 (ap one_past (sym w.in_default.is) ∙ c.args.linked.now.lasts l.i (omega arith)))
     ]

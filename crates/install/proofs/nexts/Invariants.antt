@@ -5,4 +5,4 @@ use Rattle.install.specs.Order.{Nexts}
 use Rattle.install.proofs.nexts.Given as goal
 
 abbrev pub invariant-loop-i : goal.invariant-loop-i
-invariant-loop-i l = (length l.next ≡ 256) × Nexts l.next l.held.bytes.now l.i
+invariant-loop-i l = (length l.next ≡ 256) × Nexts l.next l.linked.index.held.bytes.now l.i

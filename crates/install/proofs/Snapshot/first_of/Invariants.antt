@@ -6,7 +6,7 @@ use Rattle.install.specs.Order.{own_of}
 use Rattle.install.proofs.Snapshot.first_of.Given as goal
 
 abbrev pub invariant-loop-first : goal.invariant-loop-first
-invariant-loop-first l = (l.first ≤ l.i) × (own_of l.self.held.bytes.now l.i l.first ≡ true)
+invariant-loop-first l = (l.first ≤ l.i) × (own_of l.self.linked.now.index.held.bytes.now l.i l.first ≡ true)
 
 abbrev pub decreases-loop-first : goal.decreases-loop-first
 decreases-loop-first l = l.first

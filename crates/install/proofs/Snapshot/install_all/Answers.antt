@@ -12,12 +12,13 @@ pub install-requires : goal.install-requires
 install-requires c =
     let l = c.loop-fragment in
     let s = c.args.self.now in
+    let h = s.linked.now.index.held in
     let of = c.stream-stream.ensures in
     rw (of.0, of.1)
     (record {
       size = l.invariant.2.size ∙ c.requires.records;
       long = omega (arith, c.requires.list, l.invariant.1);
-      few = omega (arith, c.requires.few, l.invariant.2.counted, count_most s.verdicts.now s.held.bytes.now s.held.count l.fragment c.args.fragments (omega arith));
+      few = omega (arith, c.requires.few, l.invariant.2.counted, count_most s.verdicts.now h.bytes.now h.count l.fragment c.args.fragments (omega arith));
     })
 
 pub loop-fragment-preserved : goal.loop-fragment-preserved

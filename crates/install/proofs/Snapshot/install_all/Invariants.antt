@@ -8,7 +8,7 @@ use Rattle.install.proofs.Snapshot.install_all.Given as goal
 
 abbrev pub invariant-loop-fragment : goal.invariant-loop-fragment
 invariant-loop-fragment l =
-    let h = l.self.held.bytes.now in
-    let n = l.self.held.count in
+    let h = l.self.linked.now.index.held.bytes.now in
+    let n = l.self.linked.now.index.held.count in
     Same l.initial.output l.output × (length l.output.list.now ≡ length l.initial.output.list.now)
     × InstalledAll l.self.verdicts.now h n l.fragment l.initial.output.list.now l.output.list.now l.initial.output.records.now l.output.records.now l.output.pieces × StreamsBelow h n l.fragment l.start

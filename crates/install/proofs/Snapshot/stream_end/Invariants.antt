@@ -4,4 +4,4 @@ use Rattle.model.specs.Section.{item_at}
 use Rattle.install.proofs.Snapshot.stream_end.Given as goal
 
 abbrev pub invariant-loop-i : goal.invariant-loop-i
-invariant-loop-i l = (j : ℕ) → j < l.i → (item_at l.self.held.bytes.now j).stream < l.fragment + 1
+invariant-loop-i l = (j : ℕ) → j < l.i → (item_at l.self.linked.now.index.held.bytes.now j).stream < l.fragment + 1

@@ -10,7 +10,7 @@ returns-then-place-eq-PUT c =
     let a = c.args in
     let o = a.self.now.orderly in
     let e = c.place-place.ensures in
-    write_put a.records.now (item_at a.self.now.held.bytes.now a.i) (omega arith) (o.streams a.i (omega arith)) (o.keys a.i (omega arith) (rw e at c.if-place-gt-DELETE.false)) c.put_record.new.records (rw e at c.if-place-eq-PUT.true)
+    write_put a.records.now (item_at _ a.i) (omega arith) (o.streams a.i (omega arith)) (o.keys a.i (omega arith) (rw e at c.if-place-gt-DELETE.false)) c.put_record.new.records (rw e at c.if-place-eq-PUT.true)
     (omega (arith, ap (λ p. p.value) e)) (c.put_record.ensures ∙ rw (c.from-key.ensures, c.from-fragment.ensures, e))
 
 pub returns-else-place-eq-PUT : goal.returns-else-place-eq-PUT
@@ -19,5 +19,5 @@ returns-else-place-eq-PUT c =
     let o = a.self.now.orderly in
     let e = c.place-place.ensures in
     let w = rw e at c.if-place-gt-DELETE.false in
-    write_delete a.records.now (item_at a.self.now.held.bytes.now a.i) (omega arith) (o.streams a.i (omega arith)) (o.keys a.i (omega arith) w) c.delete_record.new.records w (rw e at c.if-place-eq-PUT.false)
+    write_delete a.records.now (item_at _ a.i) (omega arith) (o.streams a.i (omega arith)) (o.keys a.i (omega arith) w) c.delete_record.new.records w (rw e at c.if-place-eq-PUT.false)
     (c.delete_record.ensures ∙ rw (c.from-key.ensures, c.from-fragment.ensures, e))

@@ -12,19 +12,19 @@ pub unwrap-requires : goal.unwrap-requires
 unwrap-requires c =
     let l = c.loop-at in
     let s = c.args.self.now in
-    let t = walk_on s.held.bytes.now c.args.records.now c.args.i s.next s.held.count l.at s.nexts (omega arith) (omega arith) l.invariant.2 in
+    let t = walk_on _ c.args.records.now c.args.i s.next _ l.at s.nexts (omega arith) (omega arith) l.invariant.2 in
     rw t.1 (search rules)
 
 pub loop-at-smaller : goal.loop-at-smaller
 loop-at-smaller c =
     let l = c.loop-at in
     let s = c.args.self.now in
-    let t = walk_turn s.held.bytes.now c.args.records.now c.args.i s.next s.held.count l.at c.unwrap.result s.nexts (omega arith) (omega arith) l.invariant.2 c.unwrap.ensures in
+    let t = walk_turn _ c.args.records.now c.args.i s.next _ l.at c.unwrap.result s.nexts (omega arith) (omega arith) l.invariant.2 c.unwrap.ensures in
     omega (arith, t.later, t.low)
 
 pub loop-at-preserved : goal.loop-at-preserved
 loop-at-preserved c =
     let l = c.loop-at in
     let s = c.args.self.now in
-    let t = walk_turn s.held.bytes.now c.args.records.now c.args.i s.next s.held.count l.at c.unwrap.result s.nexts (omega arith) (omega arith) l.invariant.2 c.unwrap.ensures in
+    let t = walk_turn _ c.args.records.now c.args.i s.next _ l.at c.unwrap.result s.nexts (omega arith) (omega arith) l.invariant.2 c.unwrap.ensures in
     rw c.from-at.ensures (t.low, c.write_place.auto.records ∙ l.invariant.1, t.own, t.walked _ _ l.invariant.3 c.write_place.ensures)

@@ -14,15 +14,15 @@ pub install_at-requires-clause-room : goal.install_at-requires-clause-room
 install_at-requires-clause-room c =
     let l = c.loop-i in
     let s = c.args.self.now in
-    let t = s.snapshot.now in
-    room_left s c.requires l.invariant.1 (till_most t.verdicts.now t.held.bytes.now s.fragment c.args.sort l.i t.held.count (omega (arith, s.ends.low)))
+    let h = s.snapshot.now.linked.now.index.held in
+    room_left s c.requires l.invariant.1 (till_most s.snapshot.now.verdicts.now h.bytes.now s.fragment c.args.sort l.i h.count (omega (arith, s.ends.low)))
 
 pub loop-i-preserved : goal.loop-i-preserved
 loop-i-preserved c =
     let l = c.loop-i in
     let s = c.args.self.now in
     let k = c.install_at.ensures in
-    (record { records = k.same.records ∙ l.invariant.0.records; list = k.same.list ∙ l.invariant.0.list }, sort_more s.snapshot.now.verdicts.now s.snapshot.now.held.bytes.now s.fragment c.args.sort l.i l.invariant.1 k.installs)
+    (record { records = k.same.records ∙ l.invariant.0.records; list = k.same.list ∙ l.invariant.0.list }, sort_more _ _ _ c.args.sort l.i l.invariant.1 k.installs)
 
 pub returns-clause-installs : goal.returns-clause-installs
 returns-clause-installs c =
@@ -30,4 +30,4 @@ returns-clause-installs c =
     let s = c.args.self.now in
     let z = in_turn s.begins s.ends in
     let e : l.i ≡ s.end = omega arith in
-    rw (till_end s.begins s.ends s.snapshot.now.verdicts.now c.args.sort s.snapshot.now.held.count s.ends.low (omega arith), ← e) l.invariant.1
+    rw (till_end s.begins s.ends s.snapshot.now.verdicts.now c.args.sort _ s.ends.low (omega arith), ← e) l.invariant.1
