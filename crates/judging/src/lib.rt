@@ -11,7 +11,7 @@ use lookback::Section;
 use lot::Account;
 use trailer::Trailer;
 
-// (A record's number is a plain number in these, as a stream's is in `lot`: each is proved small where it is used.)
+// (A record's number is a plain number in these, since each record is compared with the one before it.)
 
 // ---- the records of an image
 
@@ -45,7 +45,8 @@ fn record_fits(records: &[u8], i: usize, account: Account) -> bool
         & in_order(records, i)
 }
 
-// The first n records: what is lent begins with them and goes on with the places. (`lot::streams_fit` has the same one line, of another test.)
+// The first n records: what is lent begins with them and goes on with the places, as the definitions take an image from its records on.
+// (`lot::streams_fit` has the same one line, of another test.)
 fn records_fit(records: &[u8], n: usize, account: Account) -> bool
     requires { n * 8 ≤ length records.now }
     ensures { result ≡ all_below (record_fits account.fragments account.keys records.now) n }

@@ -16,7 +16,10 @@ pub const MOST_LOTS: u32 = 16;
 
 // ---- one lot
 
-// Refusal 1. (`as` takes u32 to usize, for which std has no `From`.)
+// `as` in this file takes u32 to usize, for which std has no `From`: a `TryFrom` would have an `Err` that can't be.
+
+// Refusal 1. (It and `lot_fits` are the definitions' tests, and no `Result`: each call refuses at its place in the order of docs/RULES.md, and
+// `row_at` of `overview` refuses nothing.)
 pub fn memory_fits(memory: &[u8], lots: u32) -> bool
     ensures { result ≡ memory_fits lots memory.now }
 {
@@ -60,7 +63,8 @@ pub fn looks_of(look: Look, account: u32) -> bool
 
 // ---- a lot and an account are named
 
-// What such a call finds: the lot with the numbers of its account, or 1, 2 or 3. (The calls' own parameters: the C interface.)
+// What such a call finds: the lot with the numbers of its account, or 1, 2 or 3. (It has the calls' own parameters, which the promises and the
+// functions for C name as numbers.)
 pub fn find(memory: &[u8], lots: u32, lot: u32, account: u32) -> Result<OpenLot<'_>, Refusal>
     ensures { MatchResult result (λ found. (found.bytes.now ≡ lot_of memory.now lot) × (finding_of (named memory.now lots lot account) ≡ Ok found.account)) (λ refusal. finding_of (named memory.now lots lot account) ≡ Err refusal) }
 {
@@ -73,7 +77,7 @@ pub fn find(memory: &[u8], lots: u32, lot: u32, account: u32) -> Result<OpenLot<
 // ---- all lots
 
 // What a call that opens an account learns of all lots: some lot is damaged, the account is open in one, and the free lot with
-// the lowest number, if one is free.
+// the lowest number, if one is free. (That one is damaged is told as the others are: `survey_lots` can't fail, and the calls refuse.)
 #[derive(Clone, Copy, Debug, Default, PartialEq, Eq)]
 pub struct Survey {
     pub damaged: bool,
@@ -114,8 +118,9 @@ pub fn place_in(s: Survey) -> Result<u32, Refusal>
     s.free.ok_or(Refusal::NoFreeLot)
 }
 
-// (`.._in` asks for a lot within the memory: standby has why no function hands one out to be written.)
 // ---- writing in one lot: it is lent on, and every other byte stays
+
+// (`.._in` asks for a lot within the memory: `standby` has why no function hands one out to be written.)
 
 pub fn free_in(memory: &mut [u8], lot: usize)
     requires { lot * SIZE + SIZE ≤ length memory.old }

@@ -1,7 +1,7 @@
 // The functions for C, as include/standby.h declares them (`service_c` exports them): each calls the standby, and answers one number that packs the
 // numbers of its answer. A lent slice is a pointer and a length. Lists cross as bytes (specs/Crossing.antt).
 // `memory` and `lots`, `lot` and `account` stay parameters of each: the C interface, numbers and byte slices.
-// It stands on `standby` and `overview`, whose contracts each function keeps, and on `answers`.
+// It stands on `standby` and `overview`, whose contracts each function keeps, on `answers`, `closing`, `wire` and `model`.
 #![tactic(auto)]
 
 ghost use Rattle.std.specs.Prelude.{◌≡◌, ◌+◌, ◌*◌, ◌≤◌, length};
@@ -95,7 +95,8 @@ fn room_in(bytes: usize) -> usize
     }
 }
 
-// How many numbers a close has written. (`as` takes u32 to usize, for which std has no `From`.)
+// How many numbers a close has written. (`as` in this file takes u32 to usize, for which std has no `From`: a `TryFrom` would have an `Err` that
+// can't be.)
 fn written_by(closed: Result<u32, Refusal>) -> usize
     ensures { result ≡ written_by closed }
 {
@@ -115,7 +116,8 @@ fn put_numbers(bytes: &mut [u8], numbers: &[u32])
     }
 }
 
-// A close with numbers of its own for the list: what it writes there is then written as bytes.
+// A close with numbers of its own for the list: what it writes there is then written as bytes. (The numbers are lent: with an array made in this
+// function the search for the proof stops.)
 fn close_list(
     memory: &mut [u8],
     lots: u32,

@@ -1,7 +1,8 @@
 // The calls. What each owes stands in specs/.
 // A call finds its lot, looks at it once, decides, and only then writes, in that lot alone: the lot is lent on as a part of the memory.
 // It stands on `lots`, on `taking`, `closing` and `image`, which deliver to one lot, close an epoch in it, save and load it, on `judging` and `trailer`, which judge data and read their trailer, on `lot` and `model`.
-// `memory` and `lots`, `lot` and `account` stay parameters of each call: the C interface, numbers and byte slices.
+// `memory` and `lots`, `lot` and `account` stay parameters of each call: the promises (specs/Calls.antt, the crate `promises`) and the functions
+// for C name them as numbers.
 #![tactic(auto)]
 
 ghost use Rattle.std.specs.Prelude.{◌≡◌, ◌+◌, ◌*◌, ◌≤◌, ◌<◌, length, Some, Ok};
@@ -40,7 +41,8 @@ fn free_lots(memory: &mut [u8], n: usize)
     }
 }
 
-// (`as` takes u32 to usize, for which std has no `From`, and in `open_account` what was judged to fit to its own type.)
+// `as` in this file takes u32 to usize, for which std has no `From`, and in `open_account` what was judged to fit to its own type: a `TryFrom`
+// would have an `Err` that can't be.
 pub fn start(memory: &mut [u8], lots: u32) -> Result<(), Refusal>
     ensures { Started memory.old memory.new lots result }
 {
