@@ -7,7 +7,7 @@ ghost use Rattle.model.specs.Account.{account_fits, fresh};
 ghost use Rattle.lot.specs.Layout.{SIZE};
 ghost use Rattle.lot.specs.View.{free, holds};
 ghost use Rattle.lots.specs.Memory.{memory_fits, lot_fits, lot_of, view_of, Becomes, named};
-ghost use Rattle.lots.specs.Looks.{look_from, looks_damaged, looks_of, finding_of, survey_of, with_look, place_in};
+ghost use Rattle.lots.specs.Looks.{look_from, looks_of, finding_of, survey_of, with_look, place_in};
 
 use lot::{Look, OpenLot};
 use model::Refusal;
@@ -20,16 +20,18 @@ pub const MOST_LOTS: u32 = 16;
 
 // Refusal 1. (It and `lot_fits` are the definitions' tests, and no `Result`: each call refuses at its place in the order of docs/RULES.md, and
 // `row_at` of `overview` refuses nothing.)
+#[tactic(auto, unfolding(crate::specs::Memory::memory_fits, model::specs::Lists::every))]
 pub fn memory_fits(memory: &[u8], lots: u32) -> bool
     ensures { result ≡ memory_fits lots memory.now }
 {
-    (1 <= lots) & (lots <= MOST_LOTS) & (memory.len() == lots as usize * lot::SIZE)
+    1 <= lots && lots <= MOST_LOTS && memory.len() == lots as usize * lot::SIZE
 }
 
+#[tactic(auto, unfolding(crate::specs::Memory::lot_fits))]
 pub fn lot_fits(memory: &[u8], lots: u32, lot: u32) -> bool
     ensures { result ≡ lot_fits lots lot memory.now }
 {
-    memory_fits(memory, lots) & (lot < lots)
+    memory_fits(memory, lots) && lot < lots
 }
 
 // The bytes of one lot, to read.
@@ -46,12 +48,6 @@ pub fn look_in(memory: &[u8], lot: usize) -> Look
     ensures { result ≡ look_from (view_of memory.now lot) }
 {
     lot::look_at(lot_in(memory, lot))
-}
-
-pub fn looks_damaged(look: Look) -> bool
-    ensures { result ≡ looks_damaged look }
-{
-    matches!(look, Look::Damaged)
 }
 
 // Whether a lot is this account's.
@@ -88,10 +84,10 @@ pub struct Survey {
 fn with_look(s: Survey, i: u32, look: Look, account: Option<u32>) -> Survey
     ensures { result ≡ with_look s i look account }
 {
-    let free = matches!(look, Look::Free).then_some(i);
+    let free = (look == Look::Free).then_some(i);
     Survey {
-        damaged: s.damaged | looks_damaged(look),
-        known: s.known | account.is_some_and(|number| looks_of(look, number)),
+        damaged: s.damaged || look == Look::Damaged,
+        known: s.known || account.is_some_and(|number| looks_of(look, number)),
         free: s.free.or(free),
     }
 }

@@ -23,6 +23,7 @@ ghost use Rattle.standby.specs.Closing.{ClosedAs, EpochClosed};
 ghost use Rattle.standby.specs.Images.{AccountSaved, LoadedAs, AccountLoaded};
 ghost use Rattle.standby.specs.Loading.{LoadJudged};
 
+use lot::Look;
 use model::Refusal;
 use trailer::Trailer;
 
@@ -144,11 +145,10 @@ pub fn close_epoch(
 ) -> Result<u32, Refusal>
     ensures { EpochClosed memory.old memory.new lots lot account list.old list.new result }
 {
-    if lots::lot_fits(memory, lots, lot) {
-        close_in(memory, lot as usize, account, list)
-    } else {
-        Err(Refusal::NoSuchLot)
+    if !lots::lot_fits(memory, lots, lot) {
+        return Err(Refusal::NoSuchLot);
     }
+    close_in(memory, lot as usize, account, list)
 }
 
 // ---- read
@@ -165,7 +165,7 @@ pub fn read_record(
 {
     let found = lots::find(memory, lots, lot, account)?;
     let a = found.account;
-    if (fragment < u32::from(a.fragments)) & (key < u32::from(a.keys)) {
+    if fragment < u32::from(a.fragments) && key < u32::from(a.keys) {
         Ok(lot::record_of(found.bytes, fragment as usize, key as usize))
     } else {
         Err(Refusal::OutsideAccount)
@@ -184,11 +184,11 @@ pub fn save_account(
 ) -> Result<u32, Refusal>
     ensures { AccountSaved memory.now lots lot account image.old image.new result }
 {
-    let lot = lots::find(memory, lots, lot, account)?;
+    let open_lot = lots::find(memory, lots, lot, account)?;
     if image.len() < image::LONGEST {
         return Err(Refusal::TooShort);
     }
-    Ok(image::save_lot(lot.bytes, lot.account, image))
+    Ok(image::save_lot(open_lot.bytes, open_lot.account, image))
 }
 
 // ---- load
@@ -238,7 +238,7 @@ pub fn drop_account(memory: &mut [u8], lots: u32, lot: u32, account: u32) -> Res
         return Err(Refusal::NoSuchLot);
     }
     let look = lots::look_in(memory, lot as usize);
-    if !(lots::looks_damaged(look) | lots::looks_of(look, account)) {
+    if !(look == Look::Damaged || lots::looks_of(look, account)) {
         return Err(Refusal::NotThisAccount);
     }
     lots::free_in(memory, lot as usize);
