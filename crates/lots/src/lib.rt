@@ -2,7 +2,7 @@
 // It stands on `model`, `lot` and `writes`.
 #![tactic(auto)]
 
-ghost use Rattle.std.specs.Prelude.{◌≡◌, true, ◌+◌, ◌*◌, ◌≤◌, length, Ok, Err, MatchResult};
+ghost use Rattle.std.specs.Prelude.{◌≡◌, true, ◌+◌, ◌*◌, ◌^◌, ◌<◌, ◌≤◌, length, Ok, Err, MatchResult};
 ghost use Rattle.model.specs.Account.{account_fits, fresh};
 ghost use Rattle.lot.specs.Layout.{SIZE};
 ghost use Rattle.lot.specs.View.{free, holds};
@@ -11,6 +11,7 @@ ghost use Rattle.lots.specs.Looks.{look_from, looks_of, finding_of, survey_of, w
 
 use lot::{Look, OpenLot};
 use model::Refusal;
+use std::ops::Range;
 
 pub const MOST_LOTS: u32 = 16;
 
@@ -34,13 +35,21 @@ pub fn lot_fits(memory: &[u8], lots: u32, lot: u32) -> bool
     memory_fits(memory, lots) && lot < lots
 }
 
+// Where a lot stands in the memory.
+pub fn range_of(lot: usize) -> Range<usize>
+    requires { lot * SIZE + SIZE < 2 ^ 64 }
+    ensures { (result.start ≡ lot * SIZE) × (result.end ≡ lot * SIZE + SIZE) }
+{
+    let start = lot * lot::SIZE;
+    start..start + lot::SIZE
+}
+
 // The bytes of one lot, to read.
 pub fn lot_in(memory: &[u8], lot: usize) -> &[u8]
     requires { lot * SIZE + SIZE ≤ length memory.now }
     ensures { result.now ≡ lot_of memory.now lot }
 {
-    let a = lot * lot::SIZE;
-    &memory[a..a + lot::SIZE]
+    &memory[range_of(lot)]
 }
 
 pub fn look_in(memory: &[u8], lot: usize) -> Look
@@ -122,16 +131,12 @@ pub fn free_in(memory: &mut [u8], lot: usize)
     requires { lot * SIZE + SIZE ≤ length memory.old }
     ensures { Becomes lot memory.old memory.new free }
 {
-    let a = lot * lot::SIZE;
-    let e = a + lot::SIZE;
-    writes::free_lot(&mut memory[a..e]);
+    writes::free_lot(&mut memory[range_of(lot)]);
 }
 
 pub fn open_in(memory: &mut [u8], lot: usize, number: u16, fragments: u8, keys: u16)
     requires { (lot * SIZE + SIZE ≤ length memory.old) × (account_fits number fragments keys ≡ true) }
     ensures { Becomes lot memory.old memory.new (holds (fresh number fragments keys)) }
 {
-    let a = lot * lot::SIZE;
-    let e = a + lot::SIZE;
-    writes::open_lot(&mut memory[a..e], number, fragments, keys);
+    writes::open_lot(&mut memory[range_of(lot)], number, fragments, keys);
 }
