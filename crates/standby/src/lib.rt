@@ -27,7 +27,7 @@ use lot::Look;
 use model::Refusal;
 use trailer::Trailer;
 
-// Each function `.._in` lends one lot out of the memory, `&mut memory[a..e]`. A function that hands the part out was tried
+// Each function `.._in` lends one lot out of the memory, by its range. A function that hands the part out was tried
 // (`ensures*` with `Lends`): it gets no proof at a range of a slice.
 
 // ---- start
@@ -104,9 +104,7 @@ fn deliver_in(memory: &mut [u8], lot: usize, account: u32, entry: &[u8]) -> Resu
     requires { lot * SIZE + SIZE ≤ length memory.old }
     ensures { (result ≡ deliver_to (account_in (view_of memory.old lot) account) entry.now) × TakenBy memory.old memory.new lot entry.now result }
 {
-    let a = lot * lot::SIZE;
-    let e = a + lot::SIZE;
-    taking::deliver_lot(&mut memory[a..e], account, entry)
+    taking::deliver_lot(&mut memory[lots::range_of(lot)], account, entry)
 }
 
 pub fn deliver(
@@ -130,9 +128,7 @@ fn close_in(memory: &mut [u8], lot: usize, account: u32, list: &mut [u32]) -> Re
     requires { lot * SIZE + SIZE ≤ length memory.old }
     ensures { (result ≡ close_from (account_in (view_of memory.old lot) account) (length list.old)) × ClosedAs memory.old memory.new lot list.old list.new result }
 {
-    let a = lot * lot::SIZE;
-    let e = a + lot::SIZE;
-    closing::close_lot(&mut memory[a..e], account, list)
+    closing::close_lot(&mut memory[lots::range_of(lot)], account, list)
 }
 
 // The caller lends a list with room for 512 numbers, and the call writes the pairs of the pieces.
@@ -216,9 +212,7 @@ fn load_in(memory: &mut [u8], lot: usize, data: &[u8], t: Trailer)
     requires { (lot * SIZE + SIZE ≤ length memory.old) × (judged_of «data».now ≡ Some t) }
     ensures { LoadedAs memory.old memory.new «data».now (Ok lot) }
 {
-    let a = lot * lot::SIZE;
-    let e = a + lot::SIZE;
-    image::load_lot(&mut memory[a..e], data, t);
+    image::load_lot(&mut memory[lots::range_of(lot)], data, t);
 }
 
 pub fn load_account(memory: &mut [u8], lots: u32, data: &[u8]) -> Result<u32, Refusal>
