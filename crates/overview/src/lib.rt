@@ -20,21 +20,23 @@ pub struct Row {
     pub damaged: u32,
 }
 
-fn row_of(look: Look) -> Row
-    ensures { result ≡ row_from look }
-{
-    match look {
-        Look::Free => Row::default(),
-        Look::Damaged => Row {
-            damaged: 1,
-            ..Row::default()
-        },
-        Look::Holds(a) => Row {
-            account: u32::from(a.number),
-            closed: a.closed,
-            held: u32::from(a.held),
-            damaged: 0,
-        },
+impl From<Look> for Row {
+    ghost from_gives = { λ look row. row ≡ row_from look };
+
+    fn from(look: Look) -> Row {
+        match look {
+            Look::Free => Row::default(),
+            Look::Damaged => Row {
+                damaged: 1,
+                ..Row::default()
+            },
+            Look::Holds(a) => Row {
+                account: u32::from(a.number),
+                closed: a.closed,
+                held: u32::from(a.held),
+                damaged: 0,
+            },
+        }
     }
 }
 
@@ -42,7 +44,7 @@ fn row_in(memory: &[u8], lot: usize) -> Row
     requires { lot * SIZE + SIZE ≤ length memory.now }
     ensures { result ≡ row_of (view_of memory.now lot) }
 {
-    row_of(lots::look_in(memory, lot))
+    Row::from(lots::look_in(memory, lot))
 }
 
 // `as` in this file takes u32 to usize, for which std has no `From`: a `TryFrom` would have an `Err` that can't be.
@@ -52,7 +54,7 @@ pub fn row_at(memory: &[u8], lots: u32, lot: u32) -> Row
     ensures { result ≡ row_at memory.now lots lot }
 {
     if !lots::lot_fits(memory, lots, lot) {
-        return row_of(Look::Free);
+        return Row::from(Look::Free);
     }
     row_in(memory, lot as usize)
 }

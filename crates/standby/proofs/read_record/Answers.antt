@@ -29,6 +29,6 @@ returns-else-fragment-from c =
     let a = c.args in
     read_outside a.memory.now a.lots a.lot a.account a.fragment a.key _ c.in_ok-found.ensures.1
     (elim c.else-fragment-from.branch [
-      else-fragment-from-via-then-fragment-from+else-key-from w ↦ second_above (rw c.from.ensures at w.if-fragment-from.true) (rw w.from-then-fragment-from.ensures at w.if-key-from.false)
+      | else-fragment-from-via-then-fragment-from+else-key-from w ↦ second_above (rw c.from.ensures at w.if-fragment-from.true) (rw w.from-then-fragment-from.ensures at w.if-key-from.false)
       | else-fragment-from-via-else-fragment-from w ↦ first_above _ (rw c.from.ensures at w.if-fragment-from.false)
     ])
