@@ -47,7 +47,7 @@ pub fn refusal_numbers(refusal: Refusal) -> Numbers
     }
 }
 
-// What a call answers, as numbers.
+// What a call answers, as numbers. (No `From`: `Numbers` is of `model` and `Result` of std, so its `impl` would have to stand in `model`.)
 pub trait Answer {
     ghost numbers_of: { Self → Numbers };
 

@@ -134,7 +134,7 @@ fn load_record(lot: &mut [u8], records: &[u8], j: usize)
     writes::set_record(lot, fragment, key, value);
 }
 
-// Puts the first n records of an image, with which what is lent begins, the last one first.
+// Puts the first n records of an image, the last one first. What is lent begins with them and goes on to the image's end, as the definitions take it.
 fn load_records(lot: &mut [u8], records: &[u8], n: usize)
     requires { (length lot.old ≡ SIZE) × (n * 8 ≤ length records.now) × SmallRecords records.now n }
     ensures { WithRecords lot.old lot.new (with_all (records_of lot.old) (parse n 8 present_of records.now)) }

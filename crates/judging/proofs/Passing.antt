@@ -3,7 +3,7 @@ use Rattle.std.specs.Prelude.{Option, Some, None}
 use Rattle.std.specs.Bool.{then_some}
 use Prim.Native.Nat.{ℕ, ◌+◌, ◌*◌, ◌-◌, ◌<◌, ◌≤◌}
 use mathlib.Core.Path.{◌≡◌, refl, sym, ap, ◌∙◌}
-use mathlib.Core.Bool.{Bool, true, false, ◌&&◌, and-true, and_assoc}
+use mathlib.Core.Bool.{Bool, true, false, and-true}
 use mathlib.Core.List.{List, ◌++◌, append_assoc}
 use native.Mathlib.Omega.{arith}
 use lib.ListN.{length, get_or, take, drop, length-append, length-drop, take-append-drop}
@@ -181,14 +181,30 @@ part_from l a = take (length l - a) (drop a l)
 pub part_from_law : (l : List ℕ) (a : ℕ) → part_from l a ≡ drop a l
 part_from_law l a = take_all (length l - a) (drop a l) (omega (arith, length-drop a l))
 
+-- where a section does not fit, those behind it are not looked at
+pub streams_unfit : (b : List ℕ) (t : Trailer) (x : Bool)
+    → x ≡ all_below (stream_fits t.account.closed b) t.account.fragments
+    → x ≡ false → false ≡ sections_fit t b
+unfolding sections_fit every
+streams_unfit b t x p e = rw (sym p ∙ e)
+
+pub records_unfit : (b : List ℕ) (t : Trailer) (x y : Bool)
+    → x ≡ all_below (stream_fits t.account.closed b) t.account.fragments
+    → y ≡ all_below (record_fits t.account.fragments t.account.keys (part_from b (t.account.fragments * 8))) t.records
+    → x ≡ true → y ≡ false → false ≡ sections_fit t b
+unfolding sections_fit every
+records_unfit b t x y p q d e = let r = rw (part_from_law b (t.account.fragments * 8)) at q in rw (sym p ∙ d, sym r ∙ e)
+
 pub sections_law : (b : List ℕ) (t : Trailer) (x y z : Bool)
     → x ≡ all_below (stream_fits t.account.closed b) t.account.fragments
     → y ≡ all_below (record_fits t.account.fragments t.account.keys (part_from b (t.account.fragments * 8))) t.records
     → z ≡ section_fits t.account.keys t.account.closed (parse t.account.fragments 8 counters_of b) t.account.held (part_from b (t.account.fragments * 8 + t.records * 8))
-    → ((x && y) && z) ≡ sections_fit t b
+    → x ≡ true → y ≡ true → z ≡ sections_fit t b
 unfolding sections_fit every
-sections_law b t x y z p q r =
-    rw (p, q, r, part_from_law b (t.account.fragments * 8), part_from_law b (t.account.fragments * 8 + t.records * 8), ← drop-drop (t.records * 8) (t.account.fragments * 8) b) (simp (and_assoc, and-true))
+sections_law b t x y z p q r d e =
+    let f = rw (part_from_law b (t.account.fragments * 8)) at q in
+    let g = rw (part_from_law b (t.account.fragments * 8 + t.records * 8), ← drop-drop (t.records * 8) (t.account.fragments * 8) b) at r in
+    rw (sym p ∙ d, sym f ∙ e, and-true) g
 
 module _ (l : List ℕ) where
   pub too_short : length l < 24 → None ≡ judged_of l

@@ -11,13 +11,13 @@ use lookback::Section;
 use lot::Account;
 use trailer::Trailer;
 
-// (A record's number is a plain number in these, as a stream's is in `lot`: each is proved small where it is used.)
+// (A record's number is a plain number in these, since each record is compared with the one before it.)
 
 // ---- the records of an image
 
 // A record's fragment and key, by which records stand in order.
 #[tactic(auto, using(crate::proofs::Records::fragment_at_law, crate::proofs::Records::key_at))]
-fn place_at(records: &[u8], i: usize) -> (u8, u16)
+fn key_at(records: &[u8], i: usize) -> (u8, u16)
     requires { i * 8 + 8 ≤ length records.now }
     ensures { (result.0 ≡ (present_at records.now i).fragment) × (result.1 ≡ (present_at records.now i).key) }
 {
@@ -30,7 +30,7 @@ fn in_order(records: &[u8], i: usize) -> bool
     requires { i * 8 + 8 ≤ length records.now }
     ensures { result ≡ in_order records.now i }
 {
-    i == 0 || place_at(records, i - 1) < place_at(records, i)
+    i == 0 || key_at(records, i - 1) < key_at(records, i)
 }
 
 #[tactic(auto, unfolding(crate::specs::Judging::record_fits, model::specs::Lists::every))]
@@ -38,14 +38,15 @@ fn record_fits(records: &[u8], i: usize, account: Account) -> bool
     requires { i * 8 + 8 ≤ length records.now }
     ensures { result ≡ record_fits account.fragments account.keys records.now i }
 {
-    let (fragment, key) = place_at(records, i);
-    (records[i * 8 + 1] == 0)
-        & (fragment < account.fragments)
-        & (key < account.keys)
-        & in_order(records, i)
+    let (fragment, key) = key_at(records, i);
+    records[i * 8 + 1] == 0
+        && fragment < account.fragments
+        && key < account.keys
+        && in_order(records, i)
 }
 
-// The first n records: what is lent begins with them and goes on with the places. (`lot::streams_fit` has the same one line, of another test.)
+// The first n records: what is lent begins with them and goes on with the places, as the definitions take an image from its records on.
+// (`lot::streams_fit` has the same one line, of another test.)
 fn records_fit(records: &[u8], n: usize, account: Account) -> bool
     requires { n * 8 ≤ length records.now }
     ensures { result ≡ all_below (record_fits account.fragments account.keys records.now) n }
@@ -56,7 +57,7 @@ fn records_fit(records: &[u8], n: usize, account: Account) -> bool
 // ---- judging
 
 // The sections of an image whose trailer has the numbers t.
-#[tactic(auto, using(crate::proofs::Passing::sections_law))]
+#[tactic(auto, using(crate::proofs::Passing::streams_unfit, crate::proofs::Passing::records_unfit, crate::proofs::Passing::sections_law))]
 fn sections_fit(image: &[u8], t: Trailer) -> bool
     requires { (length image.now ≡ image_length t.account.fragments t.records t.account.held) × (t.account.held ≤ 256) }
     ensures { result ≡ sections_fit t image.now }
@@ -65,9 +66,13 @@ fn sections_fit(image: &[u8], t: Trailer) -> bool
     let a = usize::from(account.fragments) * 8;
     let b = a + usize::from(t.records) * 8;
     let held = Section::new(&image[b..], usize::from(account.held));
-    lot::streams_fit(image, usize::from(account.fragments), account.closed)
-        & records_fit(&image[a..], usize::from(t.records), account)
-        & held::section_fits(account.limits(image), held)
+    if !lot::streams_fit(image, usize::from(account.fragments), account.closed) {
+        return false;
+    }
+    if !records_fit(&image[a..], usize::from(t.records), account) {
+        return false;
+    }
+    held::section_fits(account.limits(image), held)
 }
 
 // The numbers of the trailer of the image that data ends with, or none where it ends with no image. The signature is compared first, then

@@ -10,7 +10,8 @@ ghost use Rattle.overview.specs.Overview.{row_from, row_of, row_at, overview_ans
 use lot::Look;
 use model::Refusal;
 
-// One lot's line of the overview, as the desk lends it.
+// One lot's line of the overview, as the desk lends it. (Its fields, and `memory`, `lots` and `lot` below, are numbers, as the promises and the
+// functions for C name them.)
 #[derive(Clone, Copy, Debug, Default, PartialEq, Eq)]
 pub struct Row {
     pub account: u32,
@@ -19,21 +20,23 @@ pub struct Row {
     pub damaged: u32,
 }
 
-fn row_of(look: Look) -> Row
-    ensures { result ≡ row_from look }
-{
-    match look {
-        Look::Free => Row::default(),
-        Look::Damaged => Row {
-            damaged: 1,
-            ..Row::default()
-        },
-        Look::Holds(a) => Row {
-            account: u32::from(a.number),
-            closed: a.closed,
-            held: u32::from(a.held),
-            damaged: 0,
-        },
+impl From<Look> for Row {
+    ghost from_gives = { λ look row. row ≡ row_from look };
+
+    fn from(look: Look) -> Row {
+        match look {
+            Look::Free => Row::default(),
+            Look::Damaged => Row {
+                damaged: 1,
+                ..Row::default()
+            },
+            Look::Holds(a) => Row {
+                account: u32::from(a.number),
+                closed: a.closed,
+                held: u32::from(a.held),
+                damaged: 0,
+            },
+        }
     }
 }
 
@@ -41,18 +44,17 @@ fn row_in(memory: &[u8], lot: usize) -> Row
     requires { lot * SIZE + SIZE ≤ length memory.now }
     ensures { result ≡ row_of (view_of memory.now lot) }
 {
-    row_of(lots::look_in(memory, lot))
+    Row::from(lots::look_in(memory, lot))
 }
 
-// (A row's fields, and lot and memory as parameters, are the C interface: numbers and byte slices.)
+// `as` in this file takes u32 to usize, for which std has no `From`: a `TryFrom` would have an `Err` that can't be.
 
-// The same for a caller that lends no rows: the row of one lot, and that of a free one where there is no such lot. (`as` takes u32 to
-// usize, for which std has no `From`.)
+// The row of one lot, and that of a free one where there is no such lot, for a caller that lends no rows.
 pub fn row_at(memory: &[u8], lots: u32, lot: u32) -> Row
     ensures { result ≡ row_at memory.now lots lot }
 {
     if !lots::lot_fits(memory, lots, lot) {
-        return row_of(Look::Free);
+        return Row::from(Look::Free);
     }
     row_in(memory, lot as usize)
 }

@@ -1,5 +1,6 @@
 // The program of docs/RULES.md: reads one account from standard input (account 2 bytes, f 1, k 1, then entries), closes while it
-// can after each taken entry, and prints what happened and what is there at the end. It stands on `replaying`.
+// can after each taken entry, and prints what happened and what is there at the end. It stands on `replaying`, and on
+// `lines`, `lot` and `standby`.
 #![tactic(auto)]
 
 ghost use Rattle.std.specs.Prelude.{◌≡◌, ◌≤◌, length, IfOk};

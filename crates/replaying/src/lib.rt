@@ -1,5 +1,6 @@
 // The program of docs/RULES.md but for its reading and writing: each call on its one lot of lent memory, and the lines that
-// tell what happened, as a text. specs/Replaying.antt has what each function owes. It stands on `standby`, `overview` and `lines`.
+// tell what happened, as a text. specs/Replaying.antt has what each function owes. It stands on `standby`, `overview` and
+// `lines`, on `answers`, `lot`, `lots`, `model` and `wire`.
 #![tactic(auto)]
 
 ghost use Rattle.std.specs.Prelude.{◌≡◌, ◌++◌, ◌+◌, ◌*◌, ◌≤◌, length};
@@ -108,7 +109,8 @@ fn put_pieces(pieces: &[[u32; 2]], out: &mut Text)
     }
 }
 
-// Closes the next epoch where it can, and then tells it with its pieces.
+// Closes the next epoch where it can, and then tells it with its pieces. (The one `as` in this file takes u32 to usize, for which std has no
+// `From`: a `TryFrom` would have an `Err` that can't be.)
 pub fn close_next(memory: &mut [u8], account: u32) -> Option<Text>
     ensures { NextClosed memory.old memory.new account result }
 {

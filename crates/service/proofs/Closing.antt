@@ -114,6 +114,10 @@ module _ (m : List ℕ) (lots lot number : ℕ) where
               (d.0, rw (d.1, take_at (pairs (listed a)) (drop (2 * count) list) (2 * count) (pairs_written count w a v))),
         )
 
+pub none_written : (r : Result ℕ Refusal) → ((n : ℕ) → r ≡ Ok n → ⊥) → written_by r ≡ 0
+none_written (Ok n) h = absurd (h n refl)
+none_written (Err r) h = refl
+
 -- ---- the list of bytes b, closed with as many of the numbers as there is room for: `left` is what the close left of these
 
 module _ (m m' : List ℕ) (lots lot number : ℕ) (b numbers left : List ℕ) (room : ℕ) (r : Result ℕ Refusal) (all : length numbers ≡ LEAST_LIST) (is_room : room ≡ room_in (length b)) (kept : length left ≡ length (take room numbers)) (w : EpochClosed m m' lots lot number (take room numbers) left r) where

@@ -1,7 +1,7 @@
 // The functions for C, as include/standby.h declares them (`service_c` exports them): each calls the standby, and answers one number that packs the
 // numbers of its answer. A lent slice is a pointer and a length. Lists cross as bytes (specs/Crossing.antt).
 // `memory` and `lots`, `lot` and `account` stay parameters of each: the C interface, numbers and byte slices.
-// It stands on `standby` and `overview`, whose contracts each function keeps, and on `answers`.
+// It stands on `standby` and `overview`, whose contracts each function keeps, on `answers`, `closing`, `wire` and `model`.
 #![tactic(auto)]
 
 ghost use Rattle.std.specs.Prelude.{◌≡◌, ◌+◌, ◌*◌, ◌≤◌, length};
@@ -14,7 +14,7 @@ ghost use Rattle.standby.specs.Calls.{Started, AccountOpened, Delivered, read_an
 ghost use Rattle.standby.specs.Images.{AccountSaved, AccountLoaded};
 ghost use Rattle.service.specs.Packing.{packed, Answered};
 ghost use Rattle.service.specs.Crossing.{row16, ListClosed, RowsFilled};
-ghost use Rattle.service.specs.Writing.{room_in, written_by};
+ghost use Rattle.service.specs.Writing.{room_in};
 
 use answers::Answer;
 use model::Refusal;
@@ -95,16 +95,6 @@ fn room_in(bytes: usize) -> usize
     }
 }
 
-// How many numbers a close has written. (`as` takes u32 to usize, for which std has no `From`.)
-fn written_by(closed: Result<u32, Refusal>) -> usize
-    ensures { result ≡ written_by closed }
-{
-    match closed {
-        Ok(count) => 2 * (count as usize),
-        Err(_) => 0,
-    }
-}
-
 // The numbers, at the front of the bytes: the C interface, where a list is bytes.
 fn put_numbers(bytes: &mut [u8], numbers: &[u32])
     requires { length numbers.now * 4 ≤ length bytes.old }
@@ -115,7 +105,9 @@ fn put_numbers(bytes: &mut [u8], numbers: &[u32])
     }
 }
 
-// A close with numbers of its own for the list: what it writes there is then written as bytes.
+// A close with numbers of its own for the list: what it writes there is then written as bytes. (The numbers are lent: with an array made in this
+// function the search for the proof stops.)
+// (`as` in this file takes u32 to usize, for which std has no `From`: a `TryFrom` would have an `Err` that can't be.)
 fn close_list(
     memory: &mut [u8],
     lots: u32,
@@ -129,7 +121,9 @@ fn close_list(
 {
     let room = room_in(list.len());
     let closed = standby::close_epoch(memory, lots, lot, account, &mut numbers[..room]);
-    put_numbers(list, &numbers[..written_by(closed)]);
+    if let Ok(count) = closed {
+        put_numbers(list, &numbers[..2 * count as usize]);
+    }
     closed
 }
 

@@ -7,7 +7,7 @@ use native.Mathlib.Omega.{arith}
 use native.Mathlib.Decide.{dec_lt}
 use lib.Dec.{ltb}
 use lib.ListN.{length}
-use borrow.Author.Tests.{leb-true, ltb-true}
+use borrow.Author.Tests.{leb-true, ltb-true, lt-ltb, le-ltb}
 use Rattle.std.specs.Prelude.{if◌then◌else◌, Some, None, Result, Ok, Err, ok_or}
 use Rattle.model.specs.Account.{account_fits, MOST_FRAGMENTS, MOST_KEYS}
 use Rattle.model.specs.declared.Refusal.{Refusal}
@@ -130,6 +130,17 @@ module _ (m : List ℕ) (lots number f k : ℕ) where
           }
 
 -- ---- read
+
+-- two tests, of which the second is made where the first passes
+pub first_above : {a b : ℕ} (t : Bool) → b ≤ a → (ltb a b && t) ≡ false
+first_above {a} {b} t x = rw (le-ltb a b x)
+
+module _ {a b c d : ℕ} where
+  pub both_below : a < b → c < d → (ltb a b && ltb c d) ≡ true
+  both_below x y = rw (lt-ltb a b x) (lt-ltb c d y)
+
+  pub second_above : a < b → d ≤ c → (ltb a b && ltb c d) ≡ false
+  second_above x y = rw (lt-ltb a b x) (le-ltb c d y)
 
 module _ (m : List ℕ) (lots lot number fragment key : ℕ) where
   pub read_refused : {r : Refusal} → finding_of (named m lots lot number) ≡ Err r → Err r ≡ read_answer m lots lot number fragment key

@@ -1,7 +1,8 @@
 // The calls. What each owes stands in specs/.
 // A call finds its lot, looks at it once, decides, and only then writes, in that lot alone: the lot is lent on as a part of the memory.
 // It stands on `lots`, on `taking`, `closing` and `image`, which deliver to one lot, close an epoch in it, save and load it, on `judging` and `trailer`, which judge data and read their trailer, on `lot` and `model`.
-// `memory` and `lots`, `lot` and `account` stay parameters of each call: the C interface, numbers and byte slices.
+// `memory` and `lots`, `lot` and `account` stay parameters of each call: the promises (specs/Calls.antt, the crate `promises`) and the functions
+// for C name them as numbers.
 #![tactic(auto)]
 
 ghost use Rattle.std.specs.Prelude.{◌≡◌, ◌+◌, ◌*◌, ◌≤◌, ◌<◌, length, Some, Ok};
@@ -22,10 +23,11 @@ ghost use Rattle.standby.specs.Closing.{ClosedAs, EpochClosed};
 ghost use Rattle.standby.specs.Images.{AccountSaved, LoadedAs, AccountLoaded};
 ghost use Rattle.standby.specs.Loading.{LoadJudged};
 
+use lot::Look;
 use model::Refusal;
 use trailer::Trailer;
 
-// Each function `.._in` lends one lot out of the memory, `&mut memory[a..e]`. A function that hands the part out was tried
+// Each function `.._in` lends one lot out of the memory, by its range. A function that hands the part out was tried
 // (`ensures*` with `Lends`): it gets no proof at a range of a slice.
 
 // ---- start
@@ -40,7 +42,8 @@ fn free_lots(memory: &mut [u8], n: usize)
     }
 }
 
-// (`as` takes u32 to usize, for which std has no `From`, and in `open_account` what was judged to fit to its own type.)
+// `as` in this file takes u32 to usize, for which std has no `From`, and in `open_account` what was judged to fit to its own type: a `TryFrom`
+// would have an `Err` that can't be.
 pub fn start(memory: &mut [u8], lots: u32) -> Result<(), Refusal>
     ensures { Started memory.old memory.new lots result }
 {
@@ -101,9 +104,7 @@ fn deliver_in(memory: &mut [u8], lot: usize, account: u32, entry: &[u8]) -> Resu
     requires { lot * SIZE + SIZE ≤ length memory.old }
     ensures { (result ≡ deliver_to (account_in (view_of memory.old lot) account) entry.now) × TakenBy memory.old memory.new lot entry.now result }
 {
-    let a = lot * lot::SIZE;
-    let e = a + lot::SIZE;
-    taking::deliver_lot(&mut memory[a..e], account, entry)
+    taking::deliver_lot(&mut memory[lots::range_of(lot)], account, entry)
 }
 
 pub fn deliver(
@@ -127,9 +128,7 @@ fn close_in(memory: &mut [u8], lot: usize, account: u32, list: &mut [u32]) -> Re
     requires { lot * SIZE + SIZE ≤ length memory.old }
     ensures { (result ≡ close_from (account_in (view_of memory.old lot) account) (length list.old)) × ClosedAs memory.old memory.new lot list.old list.new result }
 {
-    let a = lot * lot::SIZE;
-    let e = a + lot::SIZE;
-    closing::close_lot(&mut memory[a..e], account, list)
+    closing::close_lot(&mut memory[lots::range_of(lot)], account, list)
 }
 
 // The caller lends a list with room for 512 numbers, and the call writes the pairs of the pieces.
@@ -142,11 +141,10 @@ pub fn close_epoch(
 ) -> Result<u32, Refusal>
     ensures { EpochClosed memory.old memory.new lots lot account list.old list.new result }
 {
-    if lots::lot_fits(memory, lots, lot) {
-        close_in(memory, lot as usize, account, list)
-    } else {
-        Err(Refusal::NoSuchLot)
+    if !lots::lot_fits(memory, lots, lot) {
+        return Err(Refusal::NoSuchLot);
     }
+    close_in(memory, lot as usize, account, list)
 }
 
 // ---- read
@@ -163,7 +161,7 @@ pub fn read_record(
 {
     let found = lots::find(memory, lots, lot, account)?;
     let a = found.account;
-    if (fragment < u32::from(a.fragments)) & (key < u32::from(a.keys)) {
+    if fragment < u32::from(a.fragments) && key < u32::from(a.keys) {
         Ok(lot::record_of(found.bytes, fragment as usize, key as usize))
     } else {
         Err(Refusal::OutsideAccount)
@@ -182,11 +180,11 @@ pub fn save_account(
 ) -> Result<u32, Refusal>
     ensures { AccountSaved memory.now lots lot account image.old image.new result }
 {
-    let lot = lots::find(memory, lots, lot, account)?;
+    let open_lot = lots::find(memory, lots, lot, account)?;
     if image.len() < image::LONGEST {
         return Err(Refusal::TooShort);
     }
-    Ok(image::save_lot(lot.bytes, lot.account, image))
+    Ok(image::save_lot(open_lot.bytes, open_lot.account, image))
 }
 
 // ---- load
@@ -214,9 +212,7 @@ fn load_in(memory: &mut [u8], lot: usize, data: &[u8], t: Trailer)
     requires { (lot * SIZE + SIZE ≤ length memory.old) × (judged_of «data».now ≡ Some t) }
     ensures { LoadedAs memory.old memory.new «data».now (Ok lot) }
 {
-    let a = lot * lot::SIZE;
-    let e = a + lot::SIZE;
-    image::load_lot(&mut memory[a..e], data, t);
+    image::load_lot(&mut memory[lots::range_of(lot)], data, t);
 }
 
 pub fn load_account(memory: &mut [u8], lots: u32, data: &[u8]) -> Result<u32, Refusal>
@@ -236,7 +232,7 @@ pub fn drop_account(memory: &mut [u8], lots: u32, lot: u32, account: u32) -> Res
         return Err(Refusal::NoSuchLot);
     }
     let look = lots::look_in(memory, lot as usize);
-    if !(lots::looks_damaged(look) | lots::looks_of(look, account)) {
+    if !(look == Look::Damaged || lots::looks_of(look, account)) {
         return Err(Refusal::NotThisAccount);
     }
     lots::free_in(memory, lot as usize);

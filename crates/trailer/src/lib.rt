@@ -76,14 +76,14 @@ pub fn trailer_fits(bytes: &[u8; Trailer::LENGTH], n: usize) -> bool
 {
     let t = Trailer::read(bytes);
     let a = t.account;
-    (bytes[3] == 0)
-        & (wire::get::<u16>(bytes, 10) == 0)
-        & lot::account_fits(
+    bytes[3] == 0
+        && wire::get::<u16>(bytes, 10) == 0
+        && lot::account_fits(
             u32::from(a.number),
             u32::from(a.fragments),
             u32::from(a.keys),
         )
-        & (a.held <= Account::MOST_HELD)
-        & (t.length == image_length(a, t.records))
-        & (t.length as usize <= n)
+        && a.held <= Account::MOST_HELD
+        && t.length == image_length(a, t.records)
+        && t.length as usize <= n
 }

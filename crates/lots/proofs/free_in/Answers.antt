@@ -10,4 +10,5 @@ pub returns : goal.returns
 returns c =
     let a = c.args in
     let f = c.free_lot in
-    lent a.memory.now a.lot f.new.lot (omega arith) f.auto.lot (ap view_lot f.ensures ∙ freed (part a.memory.now a.lot))
+    let r = c.range_of.ensures in
+    rw (r.0, r.1) (lent a.memory.now a.lot f.new.lot (omega arith) (rw (r.0, r.1) at f.auto.lot) (ap view_lot (rw (r.0, r.1) at f.ensures) ∙ freed (part a.memory.now a.lot)))

@@ -7,4 +7,5 @@ pub returns : goal.returns
 returns c =
     let a = c.args in
     let f = c.open_lot in
-    lent a.memory.now a.lot f.new.lot (omega arith) f.auto.lot f.ensures
+    let r = c.range_of.ensures in
+    rw (r.0, r.1) (lent a.memory.now a.lot f.new.lot (omega arith) (rw (r.0, r.1) at f.auto.lot) f.ensures)

@@ -6,7 +6,7 @@ use Rattle.overview.proofs.row_at.Goals as goal
 
 pub returns-then-not-lot_fits : goal.returns-then-not-lot_fits
 unfolding row_at
-returns-then-not-lot_fits c = rw (sym c.lot_fits.ensures ∙ c.if-not-lot_fits.true) c.row_of.ensures
+returns-then-not-lot_fits c = rw (sym c.lot_fits.ensures ∙ c.if-not-lot_fits.true) c.from.ensures
 
 pub row_in-requires : goal.row_in-requires
 row_in-requires c =

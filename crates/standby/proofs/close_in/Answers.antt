@@ -7,4 +7,5 @@ pub returns : goal.returns
 returns c =
     let f = c.close_lot in
     let a = c.args in
-    closed_in a.memory.now a.lot f.new.lot (omega arith) f.auto.lot a.account a.list.now f.new.list f.result f.ensures
+    let r = c.range_of.ensures in
+    rw (r.0, r.1) (closed_in a.memory.now a.lot f.new.lot (omega arith) (rw (r.0, r.1) at f.auto.lot) a.account a.list.now f.new.list f.result (rw (r.0, r.1) at f.ensures))

@@ -7,4 +7,5 @@ pub returns : goal.returns
 returns c =
     let a = c.args in
     let f = c.deliver_lot in
-    delivered_in a.memory.now a.lot f.new.lot (omega arith) f.auto.lot a.account a.entry.now f.result f.ensures
+    let r = c.range_of.ensures in
+    rw (r.0, r.1) (delivered_in a.memory.now a.lot f.new.lot (omega arith) (rw (r.0, r.1) at f.auto.lot) a.account a.entry.now f.result (rw (r.0, r.1) at f.ensures))

@@ -7,18 +7,18 @@ use Rattle.standby.proofs.save_account.Goals as goal
 pub returns-then-image-lt-LONGEST : goal.returns-then-image-lt-LONGEST
 returns-then-image-lt-LONGEST c =
     let a = c.args in
-    save_short a.memory.now a.lots a.lot a.account a.image.now _ c.in_ok-lot.ensures.1 (omega arith)
+    save_short a.memory.now a.lots a.lot a.account a.image.now _ c.in_ok-open_lot.ensures.1 (omega arith)
 
 pub save_lot-requires : goal.save_lot-requires
-save_lot-requires c = let lot = c.in_ok-lot.lot in (lot.looked.size, lot.looked.seen, omega arith)
+save_lot-requires c = let found = c.in_ok-open_lot.open_lot in (found.looked.size, found.looked.seen, omega arith)
 
-pub returns-in_err-lot : goal.returns-in_err-lot
-returns-in_err-lot c =
+pub returns-in_err-open_lot : goal.returns-in_err-open_lot
+returns-in_err-open_lot c =
     let a = c.args in
     let e = err_from_is_err_and c.from_residual.result c.from_residual.ensures.1 in
-    rw (e.1, e.2) (save_refused a.memory.now a.lots a.lot a.account a.image.now c.in_err-lot.ensures)
+    rw (e.1, e.2) (save_refused a.memory.now a.lots a.lot a.account a.image.now c.in_err-open_lot.ensures)
 
 pub returns : goal.returns
 returns c =
     let a = c.args in
-    account_saved a.memory.now a.lots a.lot a.account a.image.now _ c.in_ok-lot.ensures.1 (omega arith) (rw c.in_ok-lot.ensures.0 at c.save_lot.ensures)
+    account_saved a.memory.now a.lots a.lot a.account a.image.now _ c.in_ok-open_lot.ensures.1 (omega arith) (rw c.in_ok-open_lot.ensures.0 at c.save_lot.ensures)
