@@ -290,7 +290,7 @@ impl<'a> OpenLot<'a> {
 
     // The value of the record of fragment i and key k, or none where it is absent.
     #[tactic(auto, using(crate::proofs::Lengths::records_part))]
-    pub fn record(self, i: usize, k: usize) -> Option<u32>
+    pub fn record_at(self, i: usize, k: usize) -> Option<u32>
         requires { (i < 8) × (k < 128) }
         ensures { result ≡ found_of (record_at (records_of self.entry.bytes.now) i k) }
     {

@@ -162,7 +162,7 @@ pub fn read_record(
     let found = lots::find(memory, lots, lot, account)?;
     let a = found.account;
     if fragment < u32::from(a.fragments) && key < u32::from(a.keys) {
-        Ok(lot::record_of(found.bytes, fragment as usize, key as usize))
+        Ok(found.record_at(fragment as usize, key as usize))
     } else {
         Err(Refusal::OutsideAccount)
     }

@@ -6,11 +6,11 @@ use Rattle.standby.proofs.Calls.{both_below, first_above, second_above, read_ref
 use Rattle.standby.proofs.read_record.Goals as goal
 use Rattle.standby.proofs.read_record.Goals.{else-fragment-from-via-then-fragment-from+else-key-from, else-fragment-from-via-else-fragment-from}
 
-pub record_of-requires : goal.record_of-requires
-record_of-requires c =
+pub record_at-requires : goal.record_at-requires
+record_at-requires c =
     let a = c.args in
     let r = read_limits a.memory.now a.lots a.lot a.account a.fragment a.key _ c.in_ok-found.ensures.1 (both_below (rw c.from.ensures at c.if-fragment-from.true) (rw c.from-then-fragment-from.ensures at c.if-key-from.true)) in
-    (c.in_ok-found.found.looked.size, r.1, r.2)
+    (r.1, r.2)
 
 pub returns-in_err-found : goal.returns-in_err-found
 returns-in_err-found c =
@@ -21,7 +21,7 @@ returns-in_err-found c =
 pub returns-then-key-from : goal.returns-then-key-from
 returns-then-key-from c =
     let a = c.args in
-    ap Ok (rw c.in_ok-found.ensures.0 at c.record_of.ensures)
+    ap Ok (rw c.in_ok-found.ensures.0 at c.record_at.ensures)
     ∙ read_found a.memory.now a.lots a.lot a.account a.fragment a.key _ c.in_ok-found.ensures.1 (both_below (rw c.from.ensures at c.if-fragment-from.true) (rw c.from-then-fragment-from.ensures at c.if-key-from.true))
 
 pub returns-else-fragment-from : goal.returns-else-fragment-from
