@@ -56,7 +56,7 @@ fn records_fit(records: &[u8], n: usize, account: Account) -> bool
 
 // ---- judging
 
-// The sections of an image whose trailer has the numbers t.
+// The sections of an image whose trailer has the numbers t. (By `return`, since with `&&` between the three the search for the proof stops.)
 #[tactic(auto, using(crate::proofs::Passing::streams_unfit, crate::proofs::Passing::records_unfit, crate::proofs::Passing::sections_law))]
 fn sections_fit(image: &[u8], t: Trailer) -> bool
     requires { (length image.now ≡ image_length t.account.fragments t.records t.account.held) × (t.account.held ≤ 256) }
