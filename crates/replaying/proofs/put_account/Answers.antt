@@ -1,5 +1,4 @@
 -- The records and the held count of the account that is found. Assumes nothing.
-use mathlib.Core.Path.{sym}
 use native.Mathlib.Omega.{arith}
 use Rattle.replaying.proofs.Records.{found_limits, account_printed}
 use Rattle.replaying.proofs.put_account.Goals as goal
