@@ -47,7 +47,8 @@ pub fn refusal_numbers(refusal: Refusal) -> Numbers
     }
 }
 
-// What a call answers, as numbers. (No `From`: `Numbers` is of `model` and `Result` of std, so its `impl` would have to stand in `model`.)
+// What a call answers, as numbers. (No `From`: `Numbers` is of `model` and `Result` of std, so its `impl` would
+// have to stand in `model`, and docs/DECISIONS.md has the numbers of refusals once in code, here.)
 pub trait Answer {
     ghost numbers_of: { Self → Numbers };
 

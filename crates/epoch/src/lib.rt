@@ -15,7 +15,8 @@ use lookback::{Linked, Section};
 use model::Refusal;
 use verdicts::Verdict;
 
-// Stream i has not taken the mark of the epoch after the closed one. (As u64, in which each u32 has a next one.)
+// Stream i has not taken the mark of the epoch after the closed one. (As u64, in which each u32 has a next one. A stream's number is a plain
+// number, as in `lookback`, and that fragments are few stands in clauses, as `lot` has why.)
 fn is_missing(limits: Limits<'_>, i: u8) -> bool
     requires { i < limits.fragments }
     ensures { result ≡ missing_in limits.entry.streams.now limits.entry.closed i }
@@ -51,7 +52,7 @@ pub fn missing_marks(limits: Limits<'_>) -> Result<(), Refusal>
     Err(Refusal::MarkMissing { streams, how_many })
 }
 
-// A section as it stands.
+// A section as it stands. (It is a slice, a part of a lot, as in `lot`, which has why.)
 pub fn snapshot(section: &[u8]) -> [u8; 5120]
     requires { length section.now ≡ 5120 }
     ensures { result ≡ section.now }

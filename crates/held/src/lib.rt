@@ -80,6 +80,8 @@ impl<'a> Limits<'a> {
     }
 }
 
+// (A place's number is a plain number in these, as in `lookback`, which has why.)
+
 // The bytes that place i does not use are zero, and its flag is 0 or 1.
 #[tactic(auto, using(crate::proofs::Fields::plain_is))]
 fn plain_place(held: Section, i: usize) -> bool

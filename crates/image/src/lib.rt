@@ -31,7 +31,8 @@ fn bytes_of_record(fragment: u8, key: u16, value: u32) -> [u8; 8]
     bytes
 }
 
-// (A lot and its records are slices, as in `writes` and `lot`, which have why.)
+// (A lot and its records are slices, a fragment and a key are plain numbers, and an account's limits stand in clauses, as in `writes` and `lot`,
+// which have why.)
 
 // An image that is being saved: the lent bytes, and how many of them are written (no heap: the caller lends them).
 #[derive(Drop)]

@@ -54,7 +54,7 @@ impl<'a, 'h> Snapshot<'a, 'h> {
         }
     }
 
-    // (Records are a slice, as in `lot`, which has why.)
+    // (Records are a slice, as in `lot`, and a place's number is a plain number, as in `lookback`, which have why.)
 
     // The first place of place i's piece.
     fn first_of(&self, i: usize) -> usize
@@ -92,7 +92,7 @@ impl<'a, 'h> Snapshot<'a, 'h> {
         requires { (length records.old ≡ 5120) × (i < self.now.linked.now.index.held.count) }
         ensures { Changed records.old records.new (item_at self.now.linked.now.index.held.bytes.now i).stream (writes_before self.now.linked.now.index.held.bytes.now i) }
     {
-        // A walk along the chain, which ends at place i: there is nothing to count.
+        // A walk along the chain, which ends at place i: there is nothing to count, and that there is a next place is proved.
         let mut at = self.first_of(i);
         while at != i {
             self.write_place(records, at);

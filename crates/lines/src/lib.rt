@@ -69,7 +69,7 @@ impl Text {
         self.written.push_str("\n");
     }
 
-    // A line takes its words and numbers as it is read. Each asks for the room of the longest: a text that is lent may be full.
+    // A line takes its words and numbers as it is read, and has its definition. Each asks for the room of the longest: a text that is lent may be full.
 
     // ---- the lines
 

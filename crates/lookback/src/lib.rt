@@ -201,7 +201,8 @@ impl<'a> Index<'a> {
     }
 }
 
-// A held section whose places are all chained, with the last place before each of its piece.
+// A held section whose places are all chained, with the last place before each of its piece. (`last` is an array of its own beside those of the
+// index, since the damage test makes an index and no `last`.)
 #[derive(Clone, Copy)]
 pub struct Linked<'a> {
     pub index: Index<'a>,

@@ -28,7 +28,8 @@ pub const RECORDS: Range<usize> = 5200..10320;
 
 pub const SIZE: usize = 10320;
 
-// The numbers of an account, as the head of its lot has them.
+// The numbers of an account, as the head of its lot has them. (It has no invariant: a head and a trailer are read into one before they are
+// judged. So what they are found to be stands in clauses, here and in the crates above.)
 #[derive(Clone, Copy, Debug, PartialEq, Eq)]
 pub struct Account {
     pub number: u16,
@@ -94,12 +95,12 @@ impl Account {
 pub fn account_fits(number: u32, fragments: u32, keys: u32) -> bool
     ensures { result ≡ account_fits number fragments keys }
 {
-    (1 <= number)
-        & (number <= Account::MOST_NUMBER)
-        & (1 <= fragments)
-        & (fragments <= Account::MOST_FRAGMENTS)
-        & (1 <= keys)
-        & (keys <= Account::MOST_KEYS)
+    1 <= number
+        && number <= Account::MOST_NUMBER
+        && 1 <= fragments
+        && fragments <= Account::MOST_FRAGMENTS
+        && 1 <= keys
+        && keys <= Account::MOST_KEYS
 }
 
 // ---- sections; each is lent as a slice, since it is a part of a lot: as `&mut [u8; 5120]` it would come from `first_chunk_mut`,
@@ -202,8 +203,8 @@ fn head_fits(head: &[u8]) -> bool
         u32::from(a.number),
         u32::from(a.fragments),
         u32::from(a.keys),
-    ) & (head[7] == 0)
-        & (a.held <= Account::MOST_HELD)
+    ) && head[7] == 0
+        && a.held <= Account::MOST_HELD
 }
 
 #[tactic(auto, unfolding(crate::specs::View::stream_fits, model::specs::Lists::every))]
@@ -211,7 +212,7 @@ fn stream_fits(streams: &[u8], i: usize, closed: u32) -> bool
     requires { i * 8 + 8 ≤ length streams.now }
     ensures { result ≡ stream_fits closed streams.now i }
 {
-    (wire::get::<u16>(streams, i * 8 + 2) == 0) & (closed < wire::get::<u32>(streams, i * 8 + 4))
+    wire::get::<u16>(streams, i * 8 + 2) == 0 && closed < wire::get::<u32>(streams, i * 8 + 4)
 }
 
 // The first n streams. (A lot has eight whatever its account has, so what is lent goes on behind them: fixed memory. `records_fit` of `judging`

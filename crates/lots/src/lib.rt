@@ -19,7 +19,7 @@ pub const MOST_LOTS: u32 = 16;
 
 // `as` in this file takes u32 to usize, for which std has no `From`: a `TryFrom` would have an `Err` that can't be.
 
-// Refusal 1. (It and `lot_fits` are the definitions' tests, and no `Result`: each call refuses at its place in the order of docs/RULES.md, and
+// Refusal 1. (It and `lot_fits` are the definitions' tests, can't fail, and are no `Result`: each call refuses at its place in the order of docs/RULES.md, and
 // `row_at` of `overview` refuses nothing.)
 #[tactic(auto, unfolding(crate::specs::Memory::memory_fits, model::specs::Lists::every))]
 pub fn memory_fits(memory: &[u8], lots: u32) -> bool

@@ -33,7 +33,8 @@ pub fn insert(held: &mut [u8], start: usize, end: usize, place: &[u8; 20])
     held[start..next].copy_from_slice(place);
 }
 
-// Holds an entry: its 16 bytes with bytes 2-3 zero, then its epoch.
+// Holds an entry: its 16 bytes with bytes 2-3 zero, then its epoch. (Its bytes are a slice: one that is offered may be of any length, which
+// refusal 4 judges.)
 pub fn hold_entry(held: &mut [u8], n: usize, entry: &[u8], epoch: u32)
     requires { (length held.old ≡ 5120) × (n < 256) × (length entry.now ≡ 16) }
     ensures { EntryHeld held.old held.new n entry.now epoch }

@@ -124,7 +124,7 @@ pub fn close_next(memory: &mut [u8], account: u32) -> Option<Text>
     Some(out)
 }
 
-// ---- the end
+// ---- the end (an account's limits and the room of a text stand in clauses, as in `lot` and `lines`, which have why)
 
 fn put_found(fragment: u32, key: u32, found: Result<Option<u32>, Refusal>, out: &mut Text)
     requires { length out.old + 70 ≤ ROOM }

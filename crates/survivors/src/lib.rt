@@ -45,7 +45,8 @@ impl<'a> Rewritten<'a> {
         self.count += 1;
     }
 
-    // Writes what the verdict leaves of a place after the others.
+    // Writes what the verdict leaves of a place after the others. (It is copied as its 20 bytes, of which two tell what is left: a
+    // `lookback::Place` has none to copy.)
     fn keep_place(&mut self, place: &[u8], verdict: Option<Verdict>)
         requires { Room self.old place.now }
         ensures same { self.new.section.ghost_name ≡ self.old.section.ghost_name }

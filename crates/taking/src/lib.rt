@@ -89,7 +89,8 @@ fn step_stream(lot: &mut [u8], i: usize, mark: bool) -> u32
     c.epoch
 }
 
-// Holds an entry where n are held: the places are lent to be written, as bytes and a count.
+// Holds an entry where n are held: the places are lent to be written, as bytes and a count. (An entry's bytes are a slice, as in `places`, and a
+// stream's number is a plain number, as in `lookback`, which have why.)
 #[tactic(auto, using(crate::proofs::Writing::held_in_law))]
 fn hold_in(lot: &mut [u8], n: usize, bytes: &[u8], epoch: u32)
     requires { (length lot.old ≡ SIZE) × (n < 256) × (length bytes.now ≡ 16) }

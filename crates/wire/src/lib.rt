@@ -45,6 +45,7 @@ impl Number for u16 {
     }
 
     fn write(self, s: &mut [u8], at: usize) {
+        // Byte by byte, as a u32 below, which has why.
         let [b0, b1] = self.to_le_bytes();
         s[at] = b0;
         s[at + 1] = b1;
