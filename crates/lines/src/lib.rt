@@ -35,6 +35,13 @@ impl Text {
         }
     }
 
+    // Takes back all that is written.
+    pub fn clear(&mut self)
+        ensures { self.new ≡ [] }
+    {
+        self.written.clear();
+    }
+
     pub fn is_empty(&self) -> bool
         ensures { result ≡ (length self.now == 0) }
     {
@@ -42,7 +49,8 @@ impl Text {
     }
 
     pub fn as_bytes(&self) -> &[u8]
-        ensures { result.now ≡ self.now }
+        ensures value { result.now ≡ self.now }
+        ensures fits { length result.now ≤ ROOM }
     {
         self.written.as_str().as_bytes()
     }

@@ -6,6 +6,7 @@
 ghost use Rattle.std.specs.Prelude.{◌≡◌, ◌≤◌, length, IfOk};
 
 use lines::Text;
+use replaying::Refused;
 use std::io::{self, ErrorKind, Read, Write};
 use std::rt::{Stdin, Stdout};
 
@@ -29,24 +30,25 @@ fn read_full(mut input: Stdin, buffer: &mut [u8]) -> io::Result<usize>
     Ok(read)
 }
 
-// A run of the program: what it reads and writes, and its one lot.
+// A run of the program: what it reads and writes, its one lot, and the text that it writes out next. (One text for the whole run: a text of its
+// own for each line would be 80,000 bytes made and moved for each.)
 #[derive(Drop)]
 struct Run {
     input: Stdin,
     output: Stdout,
     memory: [u8; lot::SIZE],
+    text: Text,
 }
 
 impl Run {
-    fn print(&mut self, text: &Text) -> io::Result<()>
-        ensures { self.new.memory ≡ self.old.memory }
-    {
-        self.output.write_all(text.as_bytes())
+    fn tell(&mut self, refused: Refused) -> io::Result<()> {
+        let line = refused.line(&mut self.text);
+        self.output.write_all(line.as_bytes())
     }
 
     fn close_while_it_can(&mut self, account: u32) -> io::Result<()> {
-        while let Some(text) = replaying::close_next(&mut self.memory, account) {
-            self.print(&text)?;
+        while let Some(text) = replaying::close_next(&mut self.memory, account, &mut self.text) {
+            self.output.write_all(text.as_bytes())?;
         }
         Ok(())
     }
@@ -54,7 +56,7 @@ impl Run {
     fn deliver(&mut self, account: u32, index: u64, entry: &[u8]) -> io::Result<()> {
         match replaying::deliver_entry(&mut self.memory, account, index, entry) {
             Ok(()) => self.close_while_it_can(account),
-            Err(refused) => self.print(&refused.line()),
+            Err(refused) => self.tell(refused),
         }
     }
 
@@ -78,10 +80,10 @@ impl Run {
         match replaying::open_header(&mut self.memory, &first[..read]) {
             Ok(header) => {
                 self.all_entries(header.account)?;
-                let text = replaying::put_account(&self.memory, header.account);
-                self.print(&text)
+                let text = replaying::put_account(&self.memory, header.account, &mut self.text);
+                self.output.write_all(text.as_bytes())
             }
-            Err(refused) => self.print(&refused.line()),
+            Err(refused) => self.tell(refused),
         }
     }
 }
@@ -91,6 +93,7 @@ fn main(rt: HostRuntime) -> io::Result<()> {
         input: rt.stdin(),
         output: rt.stdout(),
         memory: [0; lot::SIZE],
+        text: Text::new(),
     };
     run.replay()
 }

@@ -26,10 +26,15 @@ refused_line (refused.Entry index r) = entry_line index (number_of r)
 
 -- ---- the header: account 2 bytes, f 1, k 1; one under 4 bytes is refused by 15
 
+abbrev pub header_in : List ℕ → Header
+header_in bytes = record { account = number16 bytes 0; fragments = get_or bytes 2 0; keys = get_or bytes 3 0 }
+
 unfoldable pub header_of : List ℕ → Result Header Refusal
-header_of bytes =
-    if ltb (length bytes) 4 then Err UnfitAccount
-    else Ok (record { account = number16 bytes 0; fragments = get_or bytes 2 0; keys = get_or bytes 3 0 })
+header_of bytes = if ltb (length bytes) 4 then Err UnfitAccount else Ok (header_in bytes)
+
+-- the same as a header in any case: one of zeros where there are fewer, which fits no account
+unfoldable pub header_or_zeros : List ℕ → Header
+header_or_zeros bytes = if ltb (length bytes) 4 then record { account = 0; fragments = 0; keys = 0 } else header_in bytes
 
 abbrev pub answer_to : List ℕ → Header → Result ℕ Refusal
 answer_to m h = open_answer m 1 h.account h.fragments h.keys

@@ -3,12 +3,12 @@
 // `lines`, on `answers`, `lot`, `lots`, `model` and `wire`.
 #![tactic(auto)]
 
-ghost use Rattle.std.specs.Prelude.{◌≡◌, ◌++◌, ◌+◌, ◌*◌, ◌≤◌, length};
+ghost use Rattle.std.specs.Prelude.{◌≡◌, ◌++◌, ◌+◌, ◌*◌, ◌≤◌, length, option_copied};
 ghost use Rattle.model.specs.Image.{each};
 ghost use Rattle.lines.specs.declared.TheConstants.{ROOM};
 ghost use Rattle.lots.specs.Memory.{named};
 ghost use Rattle.standby.specs.Calls.{AccountOpened};
-ghost use Rattle.replaying.specs.Replaying.{number_of, refused_line, header_of, HeaderOpened, EntryDelivered, NextClosed, pair_text, found_text, fragment_text, records_text, last_text};
+ghost use Rattle.replaying.specs.Replaying.{number_of, refused_line, header_or_zeros, header_of, HeaderOpened, EntryDelivered, NextClosed, pair_text, found_text, fragment_text, records_text, last_text};
 
 use lines::Text;
 use lot::Account;
@@ -31,10 +31,10 @@ pub enum Refused {
 
 impl Refused {
     // The line that tells it.
-    pub fn line(self) -> Text
-        ensures { result ≡ refused_line self }
+    pub fn line(self, line: &mut Text) -> &Text
+        ensures { result.now ≡ refused_line self }
     {
-        let mut line = Text::new();
+        line.clear();
         match self {
             Refused::Header(refusal) => line.refused_header(number_of(refusal)),
             Refused::Entry(index, refusal) => line.refused_entry(index, number_of(refusal)),
@@ -45,31 +45,42 @@ impl Refused {
 
 // ---- the header
 
-#[derive(Clone, Copy)]
+#[derive(Clone, Copy, Debug, Default, PartialEq, Eq)]
 pub struct Header {
     pub account: u32,
     pub fragments: u32,
     pub keys: u32,
 }
 
+// That of the first four bytes, or one of zeros where there are fewer, which no account has.
+#[tactic(auto, unfolding(crate::specs::Replaying::header_or_zeros))]
+pub fn read_header(bytes: &[u8]) -> Header
+    ensures { result ≡ header_or_zeros bytes.now }
+{
+    if bytes.len() < 4 {
+        return Header::default();
+    }
+    Header {
+        account: u32::from(wire::get::<u16>(bytes, 0)),
+        fragments: u32::from(bytes[2]),
+        keys: u32::from(bytes[3]),
+    }
+}
+
 impl Header {
     // That of the first four bytes, or refusal 15 where there are fewer.
-    #[tactic(auto, unfolding(crate::specs::Replaying::header_of))]
+    #[tactic(auto, unfolding(crate::specs::Replaying::header_of, crate::specs::Replaying::header_or_zeros))]
     pub fn read(bytes: &[u8]) -> Result<Header, Refusal>
         ensures { result ≡ header_of bytes.now }
     {
         if bytes.len() < 4 {
             return Err(Refusal::UnfitAccount);
         }
-        Ok(Header {
-            account: u32::from(wire::get::<u16>(bytes, 0)),
-            fragments: u32::from(bytes[2]),
-            keys: u32::from(bytes[3]),
-        })
+        Ok(read_header(bytes))
     }
 
     // Opens its account in a memory of one lot that was started.
-    fn open(self, memory: &mut [u8]) -> Result<u32, Refusal>
+    pub fn open(self, memory: &mut [u8]) -> Result<u32, Refusal>
         ensures { AccountOpened memory.old memory.new 1 self.account self.fragments self.keys result }
     {
         standby::open_account(memory, 1, self.account, self.fragments, self.keys)
@@ -111,16 +122,16 @@ fn put_pieces(pieces: &[[u32; 2]], out: &mut Text)
 
 // Closes the next epoch where it can, and then tells it with its pieces. (The one `as` in this file takes u32 to usize, for which std has no
 // `From`: a `TryFrom` would have an `Err` that can't be.)
-pub fn close_next(memory: &mut [u8], account: u32) -> Option<Text>
-    ensures { NextClosed memory.old memory.new account result }
+pub fn close_next<'a>(memory: &mut [u8], account: u32, out: &'a mut Text) -> Option<&'a Text>
+    ensures { NextClosed memory.old memory.new account (option_copied result) }
 {
     let mut list = [0u32; 512];
     let count = standby::close_epoch(memory, 1, 0, account, &mut list).ok()?;
     let row = overview::row_at(memory, 1, 0);
-    let mut out = Text::new();
+    out.clear();
     out.epoch(u64::from(row.closed), u64::from(count));
     let (pairs, _) = list.as_chunks::<2>();
-    put_pieces(&pairs[..count as usize], &mut out);
+    put_pieces(&pairs[..count as usize], out);
     Some(out)
 }
 
@@ -161,12 +172,12 @@ fn put_records(memory: &[u8], account: Account, out: &mut Text)
 }
 
 // The records of the account and how many entries it holds; nothing where the lot is not this account's.
-pub fn put_account(memory: &[u8], account: u32) -> Text
-    ensures { result ≡ last_text (named memory.now 1 0 account) }
+pub fn put_account<'a>(memory: &[u8], account: u32, out: &'a mut Text) -> &'a Text
+    ensures { result.now ≡ last_text (named memory.now 1 0 account) }
 {
-    let mut out = Text::new();
+    out.clear();
     if let Ok(found) = lots::find(memory, 1, 0, account) {
-        put_records(memory, found.account, &mut out);
+        put_records(memory, found.account, out);
         out.held(u64::from(found.account.held));
     }
     out

@@ -1,4 +1,5 @@
 -- An epoch is closed where it can, and then printed with its pieces. Assumes nothing.
+use Rattle.std.specs.Prelude.{option_copied}
 use mathlib.Core.Path.{refl, ap, sym}
 use native.Mathlib.Omega.{arith}
 use lib.ListN.{length}
@@ -15,13 +16,13 @@ pub put_pieces-requires : goal.put_pieces-requires
 put_pieces-requires c =
     let low = count_fits _ c.close_epoch.ensures refl (counted_law _ c.in_ok-count.ensures.value) c.close_epoch.auto.list in
     let z = length-take-le c.in_ok-count.count c.as_chunks.result.0.now (omega (arith, c.as_chunks.ensures.front_len)) in
-    (omega arith, omega (arith, c.epoch.ensures.upper_bound, ap length c.new-out.ensures))
+    (omega arith, omega (arith, c.epoch.ensures.upper_bound, ap length c.clear.ensures))
 
 pub returns-in_err-count : goal.returns-in_err-count
-returns-in_err-count c = not_closed _ c.close_epoch.ensures refl c.in_err-count.ensures.value c.from_residual.ensures
+returns-in_err-count c = not_closed _ c.close_epoch.ensures refl c.in_err-count.ensures.value (ap option_copied c.from_residual.ensures)
 
 pub returns : goal.returns
 returns c =
     let low = count_fits _ c.close_epoch.ensures refl (counted_law _ c.in_ok-count.ensures.value) c.close_epoch.auto.list in
     epoch_printed _ c.close_epoch.ensures refl (counted_law _ c.in_ok-count.ensures.value) c.row_at-row.ensures
-    (rw (c.new-out.ensures, c.from.ensures, c.from-2.ensures) at c.epoch.ensures.wrote) (omega arith) c.as_chunks.ensures.front c.put_pieces.ensures
+    (rw (c.clear.ensures, c.from.ensures, c.from-2.ensures) at c.epoch.ensures.wrote) (omega arith) c.as_chunks.ensures.front c.put_pieces.ensures
