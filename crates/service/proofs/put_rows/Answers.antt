@@ -10,13 +10,6 @@ use Rattle.service.proofs.Bytes.{none_yet, row_more}
 use Rattle.service.proofs.Rows.{rows_filled}
 use Rattle.service.proofs.put_rows.Goals as goal
 
-pub returns-in_err-overview_answer : goal.returns-in_err-overview_answer
-unfolding upward
-returns-in_err-overview_answer c =
-    let a = c.args in
-    let e = err_from_is_err_and c.from_residual.result c.from_residual.ensures.1 in
-    rw (e.1, e.2, c.in_err-overview_answer.ensures) (rows_filled a.memory.now a.lots a.bytes.now (λ i. search rules) (ap (rows_for a.lots) c.in_err-overview_answer.ensures) (none_yet row16 a.bytes.now))
-
 pub loop-i-init : goal.loop-i-init
 unfolding upward
 loop-i-init c = (refl, none_yet row16 c.args.bytes.now)
@@ -25,6 +18,13 @@ pub put_row-requires : goal.put_row-requires
 put_row-requires c =
     let w = filled c.args.memory.now c.args.lots (length c.args.bytes.now / 16) c.in_ok-overview_answer.ensures in
     omega (arith, w.enough, c.loop-i.invariant.0)
+
+pub returns-in_err-overview_answer : goal.returns-in_err-overview_answer
+unfolding upward
+returns-in_err-overview_answer c =
+    let a = c.args in
+    let e = err_from_is_err_and c.from_residual.result c.from_residual.ensures.1 in
+    rw (e.1, e.2, c.in_err-overview_answer.ensures) (rows_filled a.memory.now a.lots a.bytes.now (λ i. search rules) (ap (rows_for a.lots) c.in_err-overview_answer.ensures) (none_yet row16 a.bytes.now))
 
 pub loop-i-preserved : goal.loop-i-preserved
 loop-i-preserved c =
