@@ -41,14 +41,20 @@ struct Run {
 }
 
 impl Run {
+    fn print(&mut self) -> io::Result<()>
+        ensures { self.new.memory ≡ self.old.memory }
+    {
+        self.output.write_all(self.text.as_bytes())
+    }
+
     fn tell(&mut self, refused: Refused) -> io::Result<()> {
-        let line = refused.line(&mut self.text);
-        self.output.write_all(line.as_bytes())
+        refused.line(&mut self.text);
+        self.print()
     }
 
     fn close_while_it_can(&mut self, account: u32) -> io::Result<()> {
-        while let Some(text) = replaying::close_next(&mut self.memory, account, &mut self.text) {
-            self.output.write_all(text.as_bytes())?;
+        while let Some(()) = replaying::close_next(&mut self.memory, account, &mut self.text) {
+            self.print()?;
         }
         Ok(())
     }
@@ -80,8 +86,8 @@ impl Run {
         match replaying::open_header(&mut self.memory, &first[..read]) {
             Ok(header) => {
                 self.all_entries(header.account)?;
-                let text = replaying::put_account(&self.memory, header.account, &mut self.text);
-                self.output.write_all(text.as_bytes())
+                replaying::put_account(&self.memory, header.account, &mut self.text);
+                self.print()
             }
             Err(refused) => self.tell(refused),
         }

@@ -93,6 +93,11 @@ pub record NextClosed (m m' : List ℕ) (number : ℕ) (out : Option (List ℕ))
   pub closed : LotClosed m m' (close_answer m number)
   pub printed : out ≡ close_text (close_answer m number) (named m 1 0 number)
 
+-- the text of a close that is told, and none where none is
+abbrev pub text_told : Option (Unit {0}) → List ℕ → Option (List ℕ)
+text_told (Some tt) text = Some text
+text_told None text = None
+
 -- a pair of the list, as a line
 abbrev pub pair_text : List ℕ → List ℕ
 pair_text pair = piece_line (get_or pair 0 0) (get_or pair 1 0)

@@ -3,12 +3,12 @@
 // `lines`, on `answers`, `lot`, `lots`, `model` and `wire`.
 #![tactic(auto)]
 
-ghost use Rattle.std.specs.Prelude.{◌≡◌, ◌++◌, ◌+◌, ◌*◌, ◌≤◌, length, option_copied};
+ghost use Rattle.std.specs.Prelude.{◌≡◌, ◌++◌, ◌+◌, ◌*◌, ◌≤◌, length, IfNone};
 ghost use Rattle.model.specs.Image.{each};
 ghost use Rattle.lines.specs.declared.TheConstants.{ROOM};
 ghost use Rattle.lots.specs.Memory.{named};
 ghost use Rattle.standby.specs.Calls.{AccountOpened};
-ghost use Rattle.replaying.specs.Replaying.{number_of, refused_line, header_or_zeros, header_of, HeaderOpened, EntryDelivered, NextClosed, pair_text, found_text, fragment_text, records_text, last_text};
+ghost use Rattle.replaying.specs.Replaying.{number_of, refused_line, header_or_zeros, header_of, HeaderOpened, EntryDelivered, NextClosed, text_told, pair_text, found_text, fragment_text, records_text, last_text};
 
 use lines::Text;
 use lot::Account;
@@ -30,16 +30,15 @@ pub enum Refused {
 }
 
 impl Refused {
-    // The line that tells it.
-    pub fn line(self, line: &mut Text) -> &Text
-        ensures { result.now ≡ refused_line self }
+    // The line that tells it, in place of what the text was.
+    pub fn line(self, line: &mut Text)
+        ensures { line.new ≡ refused_line self }
     {
         line.clear();
         match self {
             Refused::Header(refusal) => line.refused_header(number_of(refusal)),
             Refused::Entry(index, refusal) => line.refused_entry(index, number_of(refusal)),
         }
-        line
     }
 }
 
@@ -120,10 +119,11 @@ fn put_pieces(pieces: &[[u32; 2]], out: &mut Text)
     }
 }
 
-// Closes the next epoch where it can, and then tells it with its pieces. (The one `as` in this file takes u32 to usize, for which std has no
-// `From`: a `TryFrom` would have an `Err` that can't be.)
-pub fn close_next<'a>(memory: &mut [u8], account: u32, out: &'a mut Text) -> Option<&'a Text>
-    ensures { NextClosed memory.old memory.new account (option_copied result) }
+// Closes the next epoch where it can, and then tells it with its pieces, in place of what the text was; where it can't, the text stays. (The one `as`
+// in this file takes u32 to usize, for which std has no `From`: a `TryFrom` would have an `Err` that can't be.)
+pub fn close_next(memory: &mut [u8], account: u32, out: &mut Text) -> Option<()>
+    ensures told { NextClosed memory.old memory.new account (text_told result out.new) }
+    ensures refused { IfNone result (out.new ≡ out.old) }
 {
     let mut list = [0u32; 512];
     let count = standby::close_epoch(memory, 1, 0, account, &mut list).ok()?;
@@ -132,7 +132,7 @@ pub fn close_next<'a>(memory: &mut [u8], account: u32, out: &'a mut Text) -> Opt
     out.epoch(u64::from(row.closed), u64::from(count));
     let (pairs, _) = list.as_chunks::<2>();
     put_pieces(&pairs[..count as usize], out);
-    Some(out)
+    Some(())
 }
 
 // ---- the end (an account's limits and the room of a text stand in clauses, as in `lot` and `lines`, which have why)
@@ -171,14 +171,13 @@ fn put_records(memory: &[u8], account: Account, out: &mut Text)
     }
 }
 
-// The records of the account and how many entries it holds; nothing where the lot is not this account's.
-pub fn put_account<'a>(memory: &[u8], account: u32, out: &'a mut Text) -> &'a Text
-    ensures { result.now ≡ last_text (named memory.now 1 0 account) }
+// The records of the account and how many entries it holds, in place of what the text was; nothing where the lot is not this account's.
+pub fn put_account(memory: &[u8], account: u32, out: &mut Text)
+    ensures { out.new ≡ last_text (named memory.now 1 0 account) }
 {
     out.clear();
     if let Ok(found) = lots::find(memory, 1, 0, account) {
         put_records(memory, found.account, out);
         out.held(u64::from(found.account.held));
     }
-    out
 }

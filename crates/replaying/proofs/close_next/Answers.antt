@@ -1,5 +1,5 @@
 -- An epoch is closed where it can, and then printed with its pieces. Assumes nothing.
-use Rattle.std.specs.Prelude.{option_copied}
+use Rattle.replaying.specs.Replaying.{text_told}
 use mathlib.Core.Path.{refl, ap, sym}
 use native.Mathlib.Omega.{arith}
 use lib.ListN.{length}
@@ -19,10 +19,15 @@ put_pieces-requires c =
     (omega arith, omega (arith, c.epoch.ensures.upper_bound, ap length c.clear.ensures))
 
 pub returns-in_err-count : goal.returns-in_err-count
-returns-in_err-count c = not_closed _ c.close_epoch.ensures refl c.in_err-count.ensures.value (ap option_copied c.from_residual.ensures)
+returns-in_err-count c =
+    let none = c.from_residual.ensures in
+    record {
+      told = not_closed _ c.close_epoch.ensures refl c.in_err-count.ensures.value (ap (λ o. text_told o c.args.out.now) none);
+      refused = rw none refl;
+    }
 
-pub returns : goal.returns
-returns c =
+pub returns-clause-told : goal.returns-clause-told
+returns-clause-told c =
     let low = count_fits _ c.close_epoch.ensures refl (counted_law _ c.in_ok-count.ensures.value) c.close_epoch.auto.list in
     epoch_printed _ c.close_epoch.ensures refl (counted_law _ c.in_ok-count.ensures.value) c.row_at-row.ensures
     (rw (c.clear.ensures, c.from.ensures, c.from-2.ensures) at c.epoch.ensures.wrote) (omega arith) c.as_chunks.ensures.front c.put_pieces.ensures
