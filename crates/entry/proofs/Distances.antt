@@ -1,9 +1,18 @@
 -- What the signed distance means: at zero, at both ends and between, and over the integers. Assumes nothing.
-use Rattle.std.proofs.Common.{◌≡◌, ℕ, zero, suc, ◌+◌, ◌-◌, ◌%◌, ◌<◌, Bool, ◌⊎◌, ℤ, pos, negsuc, ◌+ℤ◌, sym, refl, ap, ◌∙◌, inl, inr, ⊎_elim, eq-zero-or-pos, arith, to_z-of_z, w16, to_z, of_z, le-ltb, lt-ltb, ltb}
+use Rattle.std.proofs.Common.{◌≡◌, ℕ, zero, suc, ◌+◌, ◌-◌, ◌%◌, ◌<◌, Bool, ◌⊎◌, ℤ, pos, negsuc, ◌+ℤ◌, ◌-ℤ◌, sym, refl, ap, ◌∙◌, inl, inr, ⊎_elim, eq-zero-or-pos, arith, to_z-of_z, w16, to_z, of_z, le-ltb, lt-ltb, ltb}
 use Rattle.std.specs.Prelude.{if◌then◌else◌}
 use lib.IntN.{pos-ne-negsuc}
 use lib.Signed.{mag, lt_z}
 use Rattle.model.specs.Distance.{difference, distance, below_zero, above_zero}
+
+-- the wrapping difference d of two numbers of 16 bits is the difference modulo 65,536
+pub difference_is : (received expected d : ℕ) → d < 65536 → expected < 65536 → (d + expected) % 65536 ≡ received → difference received expected ≡ d
+difference_is received expected d h k q = omega arith
+
+-- n taken off -1
+pub below : (n : ℕ) → negsuc 0 -ℤ pos n ≡ negsuc n
+below zero = refl
+below (suc n) = ap (λ m. negsuc (suc m)) (omega arith)
 
 -- the signed reading of 16 bits
 pub read_signed : (d : ℕ) → to_z w16 d ≡ (if ltb d 32768 then pos d else negsuc (65535 - d))

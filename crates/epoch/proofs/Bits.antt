@@ -40,6 +40,15 @@ unfolding bits_of sum_below
 ones_bits p zero = ones_one false
 ones_bits p (suc n) = rw (ones_cat n (one (p n)) (bits_of p n) (bits_lt p n), ones_one, ones_bits p n) (omega arith)
 
+pub count_le : (p : ℕ → Bool) (n : ℕ) → count_below p n ≤ n
+unfolding sum_below
+count_le p zero = omega arith
+count_le p (suc n) = go (p n) (count_le p n)
+  where
+    go : (b : Bool) → count_below p n ≤ n → count_below p n + one b ≤ suc n
+    go true l = omega arith
+    go false l = omega arith
+
 -- ---- a turn
 
 module _ (p : ℕ → Bool) (i x : ℕ) (inv : x ≡ bits_of p i) where

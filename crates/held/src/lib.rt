@@ -123,7 +123,7 @@ fn place_fits(limits: Limits, held: Section, last: Option<u8>, i: usize) -> bool
         && limits.in_turn(place, stage)
 }
 
-// The places fit. A place is chained once it is found to fit.
+// The places fit. A place is chained as its last one is looked for.
 pub fn section_fits(limits: Limits, held: Section) -> bool
     ensures { result ≡ section_fits limits.entry.keys limits.entry.closed (parse limits.entry.fragments 8 counters_of limits.entry.streams.now) held.entry.count held.entry.bytes.now }
 {

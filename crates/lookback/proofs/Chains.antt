@@ -13,7 +13,7 @@ use lib.Seq.{get_or-set_same, get_or-set_other}
 use Rattle.std.specs.Prelude.{Option, Some, None, if◌then◌else◌}
 use Rattle.model.proofs.Tests.{and_l, and_r}
 use Rattle.model.specs.Section.{item_at}
-use Rattle.lookback.specs.Last.{one_past, last_with, is_of, last_before, Lasts, bucket_of, bucket_at, in_bucket, Indexed, Walk}
+use Rattle.lookback.specs.Last.{one_past, last_with, is_of, last_before, Lasts, bucket_of, bucket_at, in_bucket, Chained, Indexed, Walk}
 
 -- ---- the last number that passes
 
@@ -106,6 +106,10 @@ module _ (h : List ℕ) (head next : List (Option ℕ)) (n s t : ℕ) (index : I
         own = last_jump q q (λ k x. x) i;
         same = w.same ∙ last_miss (is_of h s t) i e ∙ last_jump (is_of h s t) q (key_bucket h s t) i;
       })
+
+-- a walk goes down
+pub walk_less : (h : List ℕ) (next : List (Option ℕ)) (n s t m : ℕ) → Walk h s t n m → Chained next h n → 0 < m → one_past (get_or next (m - 1) None) < m
+walk_less h next n s t m w c l = let low : m ≤ n = w.low in omega (arith, c (m - 1) (omega arith), last_le (in_bucket h (bucket_at h (m - 1))) (m - 1))
 
 pub walk_hit : (h : List ℕ) (s t n i : ℕ) → Walk h s t n (suc i) → is_of h s t i ≡ true → suc i ≡ last_with (is_of h s t) n
 walk_hit h s t n i w e = sym (w.same ∙ last_hit (is_of h s t) i e)

@@ -4,7 +4,7 @@ use mathlib.Core.Path.{◌≡◌, refl, sym, ap, ◌∙◌}
 use mathlib.Core.Bool.{Bool, true, false}
 use mathlib.Core.List.{List}
 use lib.Dec.{eqb}
-use borrow.Author.Tests.{leb-true, eqb-true, eq-eqb}
+use borrow.Author.Tests.{leb-true, eqb-true, eq-eqb, ne_eqb}
 use Rattle.std.specs.Prelude.{if◌then◌else◌, Ok, Err}
 use Rattle.model.specs.Account as model
 use Rattle.model.specs.Account.{account_fits, held_count, refused, found}
@@ -32,6 +32,24 @@ pub head_numbers_of : (l : List ℕ) {a : model.Account} → view_lot l ≡ hold
 head_numbers_of l {a} e = let w = holds_shown l e in shown_numbers w.count a w.head ∙ ap (λ n. numbers_with n a) (sym (shown_count _ w.count a w.places))
 
 module _ (l : List ℕ) where
+  pub looked_free : look_of l ≡ Free → view_lot l ≡ free
+  unfolding look_of
+  looked_free e = go (view_lot l) e
+    where
+      go : (v : Lot) → look_as (numbers_of (head_of l)) v ≡ Free → v ≡ free
+      go free e = refl
+      go damaged e = no_way cc
+      go (holds a) e = no_way cc
+
+  pub looked_damaged : look_of l ≡ Damaged → view_lot l ≡ damaged
+  unfolding look_of
+  looked_damaged e = go (view_lot l) e
+    where
+      go : (v : Lot) → look_as (numbers_of (head_of l)) v ≡ Damaged → v ≡ damaged
+      go free e = no_way cc
+      go damaged e = refl
+      go (holds a) e = no_way cc
+
   pub looked_held : {m : Account} → look_of l ≡ Holds m → LooksHeld l m
   unfolding look_of
   looked_held {m} e = go (view_lot l) refl e
@@ -73,6 +91,22 @@ held_most l k = let h = looked_held l k.seen in let w = known k h.account h.hold
 -- ---- what a call that names an account finds there
 
 module _ (l : List ℕ) (number : ℕ) where
+  pub named_damaged : look_of l ≡ Damaged → account_in (view_lot l) number ≡ refused refusal.Damaged
+  named_damaged e = rw (looked_damaged l e)
+
+  pub named_free : look_of l ≡ Free → account_in (view_lot l) number ≡ refused refusal.NotThisAccount
+  named_free e = rw (looked_free l e)
+
+  module _ {n : Account} (h : LooksHeld l n) where
+    number_is : n.number ≡ h.account.number
+    number_is = ap (λ x. x.number) h.numbers
+
+    pub named_another : (n.number ≡ number → ⊥) → account_in (view_lot l) number ≡ refused refusal.NotThisAccount
+    named_another ne = rw (h.holds_it, ne_eqb h.account.number number (λ e. ne (number_is ∙ e)))
+
+    pub named_own : n.number ≡ number → account_in (view_lot l) number ≡ found h.account
+    named_own e = rw (h.holds_it, eq-eqb h.account.number number (sym number_is ∙ e))
+
   pub finding_refused : {r : Refusal} → finding (look_of l) number ≡ Err r → account_in (view_lot l) number ≡ refused r
   unfolding look_of
   finding_refused {r} e = go (view_lot l) refl e

@@ -3,10 +3,10 @@ use Prim.Native.Nat.{ℕ, zero, suc, ◌+◌, ◌*◌, ◌<◌, ◌≤◌}
 use mathlib.Core.Path.{◌≡◌, refl, sym, ap, ◌∙◌}
 use mathlib.Core.Bool.{Bool, true, false, not}
 use mathlib.Core.List.{List, [], ◌∷◌, ◌++◌, append-nil}
-use native.Mathlib.Nat.{add-zero, add-suc, suc-add, zero-add, not-suc-le-zero, le_of_suc-le-suc}
+use native.Mathlib.Nat.{add-zero, add-suc, suc-add, zero-add, not-suc-le-zero, le_of_suc-le-suc, le_of_lt}
 use native.Mathlib.Omega.{arith}
 use lib.Dec.{ltb}
-use lib.ListN.{length, set, take, drop}
+use lib.ListN.{length, set, take, drop, length-set}
 use lib.Seq.{length-take-le}
 use Rattle.std.proofs.lemmas.List.{drop_all}
 use borrow.Author.Tests.{ltb-false}
@@ -36,6 +36,11 @@ module _ (m : List ℕ) (ys : List Row) where
 
   pub row_more : (n : ℕ) → n < length ys → set (rows_with m ys n) n (row_of (view_of m n)) ≡ rows_with m ys (suc n)
   row_more n l = ap (λ (k : ℕ). set (rows_with m ys n) n (row_of (view_of m k))) (sym (zero-add n)) ∙ stored (λ j. row_of (view_of m j)) 0 n ys l
+
+  pub rows_long : (n : ℕ) → n ≤ length ys → length (rows_with m ys n) ≡ length ys
+  unfolding upward
+  rows_long zero l = refl
+  rows_long (suc n) l = ap length (sym (row_more n l)) ∙ length-set (rows_with m ys n) n (row_of (view_of m n)) ∙ rows_long n (le_of_lt l)
 
   -- where the first n are filled in by themselves
   pub all_filled : (n : ℕ) (xs : List Row) → n ≤ length ys → xs ≡ rows_with m (take n ys) n → xs ++ drop n ys ≡ rows_with m ys n

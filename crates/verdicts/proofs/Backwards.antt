@@ -18,7 +18,7 @@ use Rattle.lookback.specs.Last.{one_past, last_with, is_of, last_before, Lasts}
 use Rattle.lookback.proofs.Chains.{last_le, last_hit, last_miss, last_passes}
 use Rattle.verdicts.specs.Orderly.{Orderly}
 use Rattle.verdicts.specs.declared.Verdict.{Verdict}
-use Rattle.verdicts.specs.Verdicts.{verdict_at, verdict_of, answer_at, Verdicts, looked_at, decider_at, place_at, answer_from}
+use Rattle.verdicts.specs.Verdicts.{verdict_at, verdict_of, answer_at, Verdicts, looked_at, decider_at, decides, decided_by, place_at, answer_from}
 use Rattle.verdicts.proofs.ByLast.{own, later, verdict_by}
 
 pub last_reaches : (p : ℕ → Bool) (n a : ℕ) → a < n → p a ≡ true → suc a ≤ last_with p n
@@ -72,7 +72,7 @@ module _ (h : List ℕ) (n e : ℕ) where
       let r = last_passes (looked_at h e (item_at h i).stream (item_at h i).entry.transaction) n j z in
       (r.0, and_l (own_of i j) _ r.1, and_r (own_of i j) _ r.1)
 
-  decider_reaches : (i : ℕ) → i < n → leb (item_at h i).entry.epoch e ≡ true → suc i ≤ decider_at h n e i
+  pub decider_reaches : (i : ℕ) → i < n → leb (item_at h i).entry.epoch e ≡ true → suc i ≤ decider_at h n e i
   unfolding looked_at
   decider_reaches i l w = last_reaches (looked_at h e (item_at h i).stream (item_at h i).entry.transaction) n i l (rw (own_self i, w))
 
@@ -189,6 +189,26 @@ module _ (h : List ℕ) (n e : ℕ) where
     found_turn answers (suc a) before x room l u f eb ex =
         let z : suc a - 1 ≡ a = omega arith in
         rw z (found_more answers a room (omega arith) f before x (rw z at eb) (rw z at ex))
+
+  -- ---- what place i is answered
+
+  pub answer_none : (i : ℕ) → e < (item_at h i).entry.epoch → None ≡ answer_at h n e i
+  unfolding answer_at
+  answer_none i l = rw (lt-leb (item_at h i).entry.epoch e l)
+
+  module _ (i : ℕ) (l : (item_at h i).entry.epoch ≤ e) where
+    pub answer_own : Orderly h n → decider_at h n e i ≡ suc i → Some (verdict_of (decided_by (decides h n e) h i)) ≡ answer_at h n e i
+    unfolding answer_at
+    answer_own o z = rw (le-leb (item_at h i).entry.epoch e l, verdict_by h n o e i i z)
+
+    pub answer_later : (m : ℕ) → decider_at h n e i ≡ m → 0 < m → answer_at h n e (m - 1) ≡ answer_at h n e i
+    unfolding answer_at verdict_at
+    answer_later zero z u = absurd (omega arith)
+    answer_later (suc j) z u =
+        let y : suc j - 1 ≡ j = omega arith in
+        let r = looked_own i j z in
+        let w = own h (item_at h i).stream (item_at h i).entry.transaction j r.1 in
+        rw (y, le-leb (item_at h i).entry.epoch e l, r.2, w.0, w.1)
 
 pub lasts_is : (last : List (Option ℕ)) (h : List ℕ) (n i : ℕ) → Lasts last h n → i < n → last_before h i ≡ one_past (get_or last i None)
 unfolding Lasts

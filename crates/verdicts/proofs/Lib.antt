@@ -1,3 +1,4 @@
 pub mod ByLast
+pub mod Deciding
 pub mod Backwards
 pub mod FromSection
