@@ -1,8 +1,8 @@
 -- What stands at a place of a held section, and at a stream of a list of counters. Assumes nothing.
 use Prim.Native.Nat.{ℕ, zero, suc, ◌+◌, ◌*◌, ◌-◌, ◌<◌, ◌≤◌}
 use mathlib.Core.Path.{◌≡◌, ap, ◌∙◌}
-use mathlib.Core.Bool.{◌&&◌, ◌||◌, and-true, and_assoc}
-use mathlib.Core.List.{List, []}
+use mathlib.Core.Bool.{Bool, ◌&&◌, ◌||◌, and-true, and_assoc}
+use mathlib.Core.List.{List, [], ◌∷◌}
 use native.Mathlib.Omega.{arith}
 use lib.Dec.{leb, ltb, eqb}
 use lib.ListN.{get_or, drop, get_or-eq_default}
@@ -40,6 +40,10 @@ module _ (l : List ℕ) (f i : ℕ) where
   epoch_outside h = ap (λ s. s.epoch) (get_or-eq_default (parse f 8 counters_of l) fresh_counters {n = i} (omega (arith, length_parse 8 counters_of f l)))
 
 -- ---- the tests of a place, one after the other
+
+pub together : (a b c d : Bool) → (a && b && c && d) ≡ every (a ∷ b ∷ c ∷ d ∷ [])
+unfolding every
+together a b c d = simp (and_assoc, and-true)
 
 pub entry_is : (f k i : ℕ) (x : Held) → entry_fits f k i x
     ≡ (leb x.kind A && fields_fit x.kind x.transaction x.argument x.value && in_account f k x.kind i x.argument)

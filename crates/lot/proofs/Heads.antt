@@ -1,17 +1,20 @@
 -- Bytes compared; a head read back as it was written. Assumes nothing.
-use Prim.Native.Nat.{ℕ, zero, suc, ◌+◌, ◌*◌, ◌/◌, ◌%◌, ◌<◌}
+use Prim.Native.Nat.{ℕ, zero, suc, ◌+◌, ◌*◌, ◌/◌, ◌%◌, ◌<◌, ◌≤◌}
 use mathlib.Core.Path.{◌≡◌, refl, ap}
-use mathlib.Core.Bool.{◌&&◌}
+use mathlib.Core.Bool.{true, ◌&&◌}
 use mathlib.Core.List.{List, [], ◌∷◌, ◌++◌}
 use native.Mathlib.Omega.{arith}
 use lib.Dec.{eqb}
 use lib.ListN.{length, get_or, drop, length-drop}
+use borrow.Author.Tests.{leb-true}
 use Rattle.wire.specs.Numbers.{number16, number32, with16, with32, bytes16, bytes32}
 use Rattle.std.specs.Prelude.{nat_eq}
 use Rattle.std.specs.Cmp.Lexicographic.{pointwise}
+use Rattle.model.specs.Account.{account_fits, MOST_FRAGMENTS, MOST_HELD}
 use Rattle.model.specs.Decoding.{same}
+use Rattle.model.proofs.Tests.{nth}
 use Rattle.lot.specs.Layout.{OPEN}
-use Rattle.lot.specs.View.{tag_of}
+use Rattle.lot.specs.View.{tag_of, head_fits}
 use Rattle.lot.specs.Head.{numbers_of, head_bytes}
 use Rattle.lot.specs.declared.Account.{Account}
 
@@ -34,6 +37,11 @@ same_law [] [] = refl
 same_law [] (y ∷ ys) = refl
 same_law (x ∷ xs) [] = refl
 same_law (x ∷ xs) (y ∷ ys) = ap (λ b. eqb x y && b) (same_law xs ys)
+
+-- of a head that fits
+pub limits : (h : List ℕ) (n : Account) → n ≡ numbers_of h → head_fits h ≡ true → (n.fragments ≤ MOST_FRAGMENTS) × (n.held ≤ MOST_HELD)
+unfolding head_fits numbers_of account_fits
+limits h n is fit = rw is (leb-true _ 8 (nth _ (nth _ fit 0) 3), leb-true _ 256 (nth _ fit 2))
 
 -- what is put into sixteen bytes, one after the other, is a head
 pub head_written : (h : List ℕ) (n : Account) → length h ≡ 16 → n.fragments < 256
