@@ -38,6 +38,11 @@ same_law [] (y ∷ ys) = refl
 same_law (x ∷ xs) [] = refl
 same_law (x ∷ xs) (y ∷ ys) = ap (λ b. eqb x y && b) (same_law xs ys)
 
+-- the tag of a head, byte by byte
+pub tag_spelled : (h : List ℕ) → length h ≡ 16 → get_or h 0 0 ∷ get_or h 1 0 ∷ get_or h 2 0 ∷ get_or h 3 0 ∷ [] ≡ tag_of h
+unfolding spelled
+tag_spelled h long = rw (spell 16 h long) refl
+
 -- of a head that fits
 pub limits : (h : List ℕ) (n : Account) → n ≡ numbers_of h → head_fits h ≡ true → (n.fragments ≤ MOST_FRAGMENTS) × (n.held ≤ MOST_HELD)
 unfolding head_fits numbers_of account_fits

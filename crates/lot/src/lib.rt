@@ -185,12 +185,11 @@ pub fn delete_record(records: &mut [u8], i: usize, k: usize)
 // ---- the test of a lot
 
 // Whether a head has this tag.
-#[tactic(auto, using(crate::proofs::Heads::same_law))]
-fn has_tag(head: &[u8], tag: &[u8]) -> bool
-    requires { (length head.now ≡ 16) × (length tag.now ≡ 4) }
-    ensures { result ≡ same (tag_of head.now) tag.now }
+fn has_tag(head: &[u8], tag: [u8; 4]) -> bool
+    requires { length head.now ≡ 16 }
+    ensures { result ≡ same (tag_of head.now) tag }
 {
-    &head[..4] == tag
+    [head[0], head[1], head[2], head[3]] == tag
 }
 
 #[tactic(auto, unfolding(crate::specs::View::head_fits, crate::specs::Head::numbers_of, model::specs::Lists::every))]
@@ -253,10 +252,10 @@ pub fn look_at(lot: &[u8]) -> Look
     ensures { result ≡ look_of lot.now }
 {
     let head = &lot[HEAD];
-    if has_tag(head, b"FREE") {
+    if has_tag(head, *b"FREE") {
         return Look::Free;
     }
-    if !has_tag(head, b"OPEN") {
+    if !has_tag(head, *b"OPEN") {
         return Look::Damaged;
     }
     if !fits(head, &lot[STREAMS], &lot[PLACES]) {
