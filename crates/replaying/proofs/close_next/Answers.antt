@@ -7,6 +7,13 @@ use lib.Seq.{length-take-le}
 use Rattle.replaying.proofs.Closes.{counted_law, not_closed, count_fits, epoch_printed}
 use Rattle.replaying.proofs.close_next.Goals as goal
 
+pub returns-in_err-count-clause-refused : goal.returns-in_err-count-clause-refused
+returns-in_err-count-clause-refused c = rw c.from_residual.ensures refl
+
+pub returns-in_err-count-clause-told : goal.returns-in_err-count-clause-told
+returns-in_err-count-clause-told c =
+    not_closed _ c.close_epoch.ensures refl c.in_err-count.ensures.value (ap (λ o. text_told o c.args.out.now) c.from_residual.ensures)
+
 pub slice_bounds-put_pieces-end : goal.slice_bounds-put_pieces-end
 slice_bounds-put_pieces-end c =
     let low = count_fits _ c.close_epoch.ensures refl (counted_law _ c.in_ok-count.ensures.value) c.close_epoch.auto.list in
@@ -17,14 +24,6 @@ put_pieces-requires c =
     let low = count_fits _ c.close_epoch.ensures refl (counted_law _ c.in_ok-count.ensures.value) c.close_epoch.auto.list in
     let z = length-take-le c.in_ok-count.count c.as_chunks.result.0.now (omega (arith, c.as_chunks.ensures.front_len)) in
     (omega arith, omega (arith, c.epoch.ensures.upper_bound, ap length c.clear.ensures))
-
-pub returns-in_err-count : goal.returns-in_err-count
-returns-in_err-count c =
-    let none = c.from_residual.ensures in
-    record {
-      told = not_closed _ c.close_epoch.ensures refl c.in_err-count.ensures.value (ap (λ o. text_told o c.args.out.now) none);
-      refused = rw none refl;
-    }
 
 pub returns-clause-told : goal.returns-clause-told
 returns-clause-told c =
