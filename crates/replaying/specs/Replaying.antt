@@ -1,4 +1,4 @@
--- What the program prints of each call on its one lot, lot 0 of 1, and what each function owes: the memory by the contracts of the calls, and the text, or the refusal, that it answers.
+-- What the program prints of each call on its one lot, lot 0 of 1, and what each function owes: the memory by the contracts of the calls, and the text that it writes, or the refusal that it answers.
 use Rattle.std.specs.Prelude.{ℕ, suc, ◌≡◌, List, [], ◌++◌, ltb, length, get_or, if◌then◌else◌, Result, Ok, Err, Some, None, Option}
 use Rattle.wire.specs.Numbers.{number16}
 use Rattle.model.specs.Lists.{upward}
