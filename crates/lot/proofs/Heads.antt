@@ -30,7 +30,7 @@ spell zero (x ∷ l) e = absurd (omega arith)
 spell (suc n) [] e = absurd (omega arith)
 spell (suc n) (x ∷ l) e = ap (λ m. x ∷ m) (spell n l (omega arith))
 
--- `==` of two slices of bytes
+-- `==` of two arrays of bytes
 pub same_law : (xs ys : List ℕ) → pointwise nat_eq xs ys ≡ same xs ys
 unfolding same
 same_law [] [] = refl

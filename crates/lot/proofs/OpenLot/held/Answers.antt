@@ -8,4 +8,5 @@ pub new-requires : goal.new-requires
 new-requires c =
     let o = c.args.self in
     let few = held_most o.bytes.now o.looked in
-    rw c.from.ensures (few, omega (arith, few, length_places o.bytes.now o.looked.size))
+    let count = c.from.ensures in
+    (omega (arith, count, few), omega (arith, count, few, length_places o.bytes.now o.looked.size))
